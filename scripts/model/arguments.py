@@ -79,7 +79,7 @@ NO_SHELL = b"""error: invalid value '%s' for '--shell <SHELL>'
 For more information, try '--help'.
 """
 NO_CODE = b"""error: invalid value '%s' for '--ignore <CODE>'
-  [possible values: carriage-return, syntax, other-shell, unknown-command, exit, wrong-use, test-operator, run-undefined, run-unknown, hidden-assignment, quoted-for, undefined-name, \
+  [possible values: carriage-return, syntax, other-shell, unknown-command, exit, and-or, if-status, loop-status, stale-status, wrong-use, test-operator, run-undefined, run-unknown, hidden-assignment, quoted-for, undefined-name, \
 no-variable, no-script, value-type]
 
 For more information, try '--help'.
@@ -172,7 +172,7 @@ Usage: fwenv run [OPTIONS] [NAMES]...
 
 For more information, try '--help'.
 """
-FILE_AND = b"""error: the argument '-f <FILE>' cannot be used with '[NAMES]...', '-c <FILE>', '--default <FILE>', '--env <FILE>', '--env-source <FILE>', '--env-plain <FILE>', '--size <N>' or '--known <FILE>'
+FILE_AND = b"""error: the argument '-f <FILE>' cannot be used with '[NAMES]...', '--default <FILE>', '--size <N>' or '--known <FILE>' without '-c <FILE>', '--env <FILE>', '--env-source <FILE>' or '--env-plain <FILE>'
 
 Usage: fwenv check [OPTIONS] [NAMES]...
 
@@ -273,9 +273,12 @@ class Call:
         if given != 1:
             raise Wrong(SEVERAL_SCRIPTS if given else NO_SCRIPT)
 
+    def names_environment(self):
+        return bool(self.options.keys() & (ENVIRONMENTS | {"-c"}))
+
     def refuse_beside_file(self):
-        """A check of a file is one of that file alone."""
-        if self.words or self.options.keys() & (ENVIRONMENTS | {"-c", "--default", "--size", "--known"}):
+        """A check of files alone has nothing of an environment."""
+        if self.words or self.options.keys() & {"--default", "--size", "--known"}:
             raise Wrong(FILE_AND)
 
     def refuse_overwrite_alone(self):

@@ -10,13 +10,14 @@ from model.shells import BOARD, only
 from model.texts import BUILTINS, SUBCOMMANDS, lines_of
 from model.words import Fault
 
-MOST_LINE, MOST_RULES = 4096, 512
+MOST_LINE, MOST_RULES, MOST_WORDS = 4096, 512, 256
 ARROW = re.compile(rb"(?:\A|(?<=[ \t]))->(?=[ \t]|\Z)")
 SENTENCES = {
     "Nul": b"a byte 0",
     "Long": b"more than 4096 bytes",
     "Form": b"neither a name, perhaps with a status, nor a pattern, -> and an answer",
     "NoPattern": b"no pattern before ->",
+    "Words": b"a pattern of more than 256 words",
     "Minus": b"a - is for the name of a builtin alone",
     "Builtin": b"a builtin answers this itself",
     "NoAnswer": b"no answer after ->",
@@ -124,6 +125,8 @@ def refuse_pattern(rule):
     """Rules that the form of a file allows and no call asks."""
     if not rule.pattern:
         raise BoardFault("NoPattern")
+    if len(rule.pattern) > MOST_WORDS:
+        raise BoardFault("Words")
     if rule.pattern[0].text.startswith(b"-"):
         raise BoardFault("Minus")
     if is_answered(rule.pattern[0]) and not rule.is_asked():

@@ -62,13 +62,15 @@ class Board:
             self.run(made, parse(PREBOOT.removesuffix(b"; "), made.shell))
         except Question:
             pass
-        numbers = {name: number(made.environment.values.get(name, b"")) for name in (b"upgrade_available", b"bootcount", b"bootlimit")}
-        is_new, limit = numbers[b"upgrade_available"] > 0, numbers[b"bootlimit"]
-        count = 1 + (numbers[b"bootcount"] if is_new else 0)
+        upgrade, count, limit = (number(made.environment.values.get(name, b"")) for name in (b"upgrade_available", b"bootcount", b"bootlimit"))
+        is_new = upgrade % 2**32 > 0
+        new = (count + 1) % 2**64 if is_new else 1
+        if made.environment.refusal(b"bootcount", b"%d" % new, False) in (None, "Full"):
+            count = new
         save = b"saveenv; " if is_new else b""
         start = b"run" if made.status == 0 else b"false || run"
         command = b"altbootcmd" if is_new and 0 < limit < count else b"bootcmd"
-        return b'%ssetenv bootcount %d; %sif test "${bootdelay}" != -1; then %s %s; fi' % (PREBOOT, count, save, start, command)
+        return b'%ssetenv bootcount %d; %sif test "${bootdelay}" != -1; then %s %s; fi' % (PREBOOT, new, save, start, command)
 
     def run(self, made, tree):
         """How the run of a tree ends, by what, and what is stored then."""
@@ -109,8 +111,10 @@ def joined(words):
 
 
 def number(text):
-    """The number that a text begins with; a very large one counts as a smaller one."""
-    return min(int(re.match(rb"[0-9]*", text)[0] or b"0"), 0xFFFFFFFF)
+    """The number that a text begins with, in 64 bits, to which no more than 64 decimal digits add."""
+    if found := re.match(rb"0[xX]([0-9a-fA-F]*)", text):
+        return int(found[1] or b"0", 16) % 2**64
+    return int(re.match(rb"[0-9]*", text)[0][-64:] or b"0") % 2**64
 
 
 class Graph:

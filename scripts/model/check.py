@@ -14,6 +14,7 @@ from model.calculations import COMPARISONS
 from model.grammar import parse
 from model.script_run import SENTENCES, line_and_column
 from model.shells import STRICT
+from model.statuses import AND_OR, IF_STATUS, LOOP_STATUS, settled
 from model.texts import BUILTINS
 from model.variables import PLAIN, TYPES, attributes
 from model.words import Fault
@@ -23,7 +24,8 @@ STARTED = (b"bootcmd", b"altbootcmd", b"preboot")
 ERROR, WARNING, NOTE = b"error", b"warning", b"note"
 # The kinds of findings by their codes, in the order of the table
 KINDS = {
-    b"carriage-return": WARNING, b"syntax": ERROR, b"other-shell": ERROR, b"unknown-command": ERROR, b"exit": WARNING, b"wrong-use": ERROR,
+    b"carriage-return": WARNING, b"syntax": ERROR, b"other-shell": ERROR, b"unknown-command": ERROR, b"exit": WARNING,
+    AND_OR: WARNING, IF_STATUS: WARNING, LOOP_STATUS: WARNING, b"stale-status": WARNING, b"wrong-use": ERROR,
     b"test-operator": ERROR, b"run-undefined": ERROR, b"run-unknown": NOTE, b"hidden-assignment": WARNING, b"quoted-for": WARNING, b"undefined-name": WARNING, b"no-variable": ERROR,
     b"no-script": ERROR, b"value-type": ERROR,
 }  # fmt: skip
@@ -36,6 +38,13 @@ NO_TARGET = b"`run %s` names a variable that is not defined"
 ANY_TARGET = b"what this runs is not known, so it is not followed"
 NO_COMMAND = b"no builtin and no stand-in is called `%s`"
 EXITS = b"U-Boot before 2025 ignores `exit` and goes on"
+# What is found at the first command inside, or behind an operator
+OF_STATUSES = {
+    AND_OR: b"a board skips the rest of a chain once a command of it is skipped",
+    IF_STATUS: b"shells differ in the status of an `if` without `else`",
+    LOOP_STATUS: b"shells differ in the status of a `while` or `until`",
+}
+STALE = b"shells differ in the `$?` with which a text or a turn of `for` begins"
 CUTS = b"a board cuts this word of a `for` at its blanks, in quotes too"
 NO_OPERATOR = b"`test` has no operator `%s` here"
 IS_VARIABLE = b"`%s` is an environment variable, "
@@ -101,12 +110,14 @@ class Finding:
 @dataclass
 class Known:
     """The shell; the values of the environment, or None if only one script is checked; the stand-ins, and the rules of a board, both None
-    if there is no file of either; the names that something may set; those that a substitution may have; and those that `run` may."""
+    if there is no file of either; the names of the scripts whose status is asked for; the names that something may set; those that a substitution may have; and those that `run` may.
+    """
 
     shell: object = STRICT
     values: dict = None
     stand_ins: dict = None
     board: list = None
+    asked: set = frozenset()
     set: set = frozenset()
     defined: set = frozenset()
     started: set = frozenset()
@@ -246,10 +257,14 @@ def targets(command, known):
     """The variables that a command may start: those that literal arguments of `run` name, and for each other argument those whose names
     begin as it does, in order of names. An argument that begins with a substitution may start any, and counts for none."""
     for word in started(command, known):
-        if literal(word) is not None:
-            yield literal(word)
-        elif front(word):
-            yield from (name for name in sorted(known.values) if name.startswith(front(word)))
+        yield from targets_of(word, known)
+
+
+def targets_of(word, known):
+    if literal(word) is not None:
+        yield literal(word)
+    elif front(word):
+        yield from (name for name in sorted(known.values) if name.startswith(front(word)))
 
 
 def substituted(words):
@@ -306,6 +321,18 @@ def no_script(fault):
 
 
 # The kinds of findings in a command
+
+
+def of_setting(command, setting):
+    """What the setting of a command finds at its first word."""
+    words = words_of(command)
+    shows = any(part[0] == "status" for word in words for part in word)
+    found = [Finding(place_of(command), kind, OF_STATUSES[kind]) for kind in sorted(setting.kinds)]
+    return found + [Finding(place_of(command), b"stale-status", STALE)] * (setting.begins and shows)
+
+
+def place_of(command):
+    return command[-1] if command[0] in ("assign", "for") else command[1][0].place if command[1] else 0
 
 
 def known_name(command, known):
@@ -388,9 +415,14 @@ def ignored_exit(command, known):
 
 
 def cut_word(command, _known):
-    """Words of a `for` without a substitution that have a blank, at which a board cuts."""
+    """Words of a `for` with a blank, empty, or with a substitution and quotes: a board cuts them at blanks, in quotes too."""
     words = command[2] if command[0] == "for" else []
-    return [Finding(word.place, b"quoted-for", CUTS) for word in words if re.search(rb"[ \n]", literal(word) or b"")]
+    return [Finding(word.place, b"quoted-for", CUTS) for word in words if is_cut(word)]
+
+
+def is_cut(word):
+    text = literal(word)
+    return ("mark",) in word if text is None else not text or re.search(rb"[ \n]", text)
 
 
 def undefined_target(command, known):
@@ -549,16 +581,40 @@ def tree_of(text, shell):
         return None, fault
 
 
-def findings(text, known):
+def findings(text, known, asked=False):
+    """What is found in a text; `asked`: its status is asked for."""
     found = carriage_return(text)
     tree, fault = tree_of(text, known.shell)
     if fault:
         return found + no_script(fault)
-    return found + [each for command in commands(tree) for search in SEARCHES for each in search(command, known)]
+    for command, setting in settled(text, tree, asked):
+        found += of_setting(command, setting) + [each for search in SEARCHES for each in search(command, known)]
+    return found
+
+
+def asked_in(text, known, asked):
+    """The variables that a script runs and whose statuses are asked for, which a `run` does of all its names but the last."""
+    tree, _ = tree_of(text, known.shell)
+    for command, setting in settled(text, tree or [], asked):
+        words = started(command, known)
+        for word in words if setting.asked else words[:-1]:
+            yield from (target for target in targets_of(word, known) if target in known.values)
+
+
+def asked_among(scripts, known, texts):
+    """The scripts whose statuses are asked for: by one of these or of these texts, or by the end of one whose own is."""
+    read = [*texts, *(text_of_script(name, known.values) for name in scripts)]
+    found = {target for text in read for target in asked_in(text, known, False)}
+    left = list(found)
+    while left:
+        more = set(asked_in(text_of_script(left.pop(), known.values), known, True)) - found
+        found |= more
+        left += more
+    return found
 
 
 def of_files(shell, scripts, stand_ins, board, *asked):
-    """The scripts of files, each a path and its text."""
+    """The scripts of files alone, each a path and its text."""
     report = Report(*asked)
     for path, text in scripts:
         report.add(FILE, path, text, findings(text, Known(shell, None, stand_ins, board)))
@@ -589,17 +645,17 @@ def commands_in(text, known):
     return list(commands(tree or []))
 
 
-def commands_of_answers(known):
-    """The commands of the texts that answer calls."""
-    texts = [rule.answer for rule in known.board or () if isinstance(rule.answer, bytes)]
-    return [command for text in texts for command in commands_in(text, known)]
+def commands_of_texts(known, texts):
+    """The commands of the texts that answer calls, and of these."""
+    answers = [rule.answer for rule in known.board or () if isinstance(rule.answer, bytes)]
+    return [command for text in [*answers, *texts] for command in commands_in(text, known)]
 
 
-def visited(known, names):
-    """The variables that are checked, each once: those that are named, those that answers start, and after them those that each of them
-    starts."""
-    started_by_answers = [target for command in commands_of_answers(known) for target in targets(command, known)]
-    found = list(dict.fromkeys(name for name in [*names, *started_by_answers] if name in known.values))
+def visited(known, names, texts):
+    """The variables that are checked, each once: those that are named, those that answers and these texts start, and after them those that
+    each of them starts."""
+    started_by_texts = [target for command in commands_of_texts(known, texts) for target in targets(command, known)]
+    found = list(dict.fromkeys(name for name in [*names, *started_by_texts] if name in known.values))
     for name in found:
         for command in commands_of(name, known):
             for target in targets(command, known):
@@ -608,9 +664,9 @@ def visited(known, names):
     return found
 
 
-def names_by(kind, known, scripts):
-    """The names that are given or foreseen by the commands of answers and of these variables."""
-    found = [*commands_of_answers(known), *(command for script in scripts for command in commands_of(script, known))]
+def names_by(kind, known, scripts, texts):
+    """The names that are given or foreseen by the commands of answers, of these variables and of these texts."""
+    found = [*commands_of_texts(known, texts), *(command for script in scripts for command in commands_of(script, known))]
     return {name for command in found for name in kind(command, known)}
 
 
@@ -620,21 +676,28 @@ def not_typed(values):
     return [name for name, value in sorted(values.items()) if not TYPES[given.get(name, PLAIN)[0]].fullmatch(value)]
 
 
-def of_environment(shell, values, stand_ins, board, own, names, *asked):
-    """The scripts that are named, and those that they start; then whether there was one, and the types of all variables. `own` are names
-    that the board's own code sets."""
+def of_environment(shell, values, stand_ins, board, own, names, files, *asked):
+    """The scripts of files, each a path and its text, those that are named, and those that they start; without files then whether there was
+    a script, and the types of all variables. `own` are names that the board's own code sets."""
     report = Report(*asked)
     for name in names:
         if name not in values:
             report.add_line(VARIABLE, name, (), b"no-variable", NOT_DEFINED)
     known = Known(shell, values, stand_ins, board)
-    scripts = visited(known, names or [*STARTED, *sorted(name for name in values if is_entry(name, values))])
-    known.set = names_by(given, known, scripts) | SET_BY_UBOOT | set(own)
+    usual = [] if files else [*STARTED, *sorted(name for name in values if is_entry(name, values))]
+    texts = [text for _, text in files]
+    scripts = visited(known, names or usual, texts)
+    known.set = names_by(given, known, scripts, texts) | SET_BY_UBOOT | set(own)
     known.defined = values.keys() | known.set
-    known.started = values.keys() | names_by(foreseen, known, scripts)
+    known.started = values.keys() | names_by(foreseen, known, scripts, texts)
+    known.asked = asked_among(scripts, known, texts)
+    for path, text in files:
+        report.add(FILE, path, text, findings(text, known))
     for name in scripts:
         script = text_of_script(name, values)
-        report.add(VARIABLE, name, script, findings(script, known))
+        report.add(VARIABLE, name, script, findings(script, known, name in known.asked))
+    if files:
+        return report
     if not scripts:
         report.add_line(WHOLE, b"check", (), b"no-script", NOTHING)
     for name in not_typed(values):

@@ -434,18 +434,20 @@ class Program:
         return status
 
     def call_check(self, call):
-        is_file = "-f" in call.options
-        if is_file:
+        paths = call.options.get("-f", [])
+        is_alone = paths and not call.names_environment()
+        if is_alone:
             call.refuse_beside_file()
         call.size_in_memory()
         shell, asked = call.shell(), (call.ignored(check.KINDS), "--strict" in call.options, call.format())
-        values = None if is_file else self.opened(call).environment.values
+        values = None if is_alone else self.opened(call).environment.values
         hardware = (self.stand_ins(call), self.board(call)) if call.options.keys() & {"--stubs", "--board"} else (None, None)
-        if is_file:
-            scripts = [(path, self.own_text(path)) for path in call.options["-f"]]
+        known = [] if is_alone else self.known_names(call)
+        scripts = [(path, self.own_text(path)) for path in paths]
+        if is_alone:
             found = check.of_files(shell, scripts, *hardware, *asked)
         else:
-            found = check.of_environment(shell, values, *hardware, self.known_names(call), call.words, *asked)
+            found = check.of_environment(shell, values, *hardware, known, call.words, scripts, *asked)
         self.output = found.printed()
         self.say(found.last())
         return found.status()

@@ -43,8 +43,8 @@ def on_boards(texts, copy):
     return found
 
 
-def in_dry_runs(texts, copy):
-    output = copy.session(b"".join(text + b"\n.print\n.undo\n" for text in texts), default={})
+def in_dry_runs(texts, copy, shell="board"):
+    output = copy.session(b"".join(text + b"\n.print\n.undo\n" for text in texts), default={}, shell=shell)
     return [(answer_of(text, ending), left) for text, ending, left in LEFT.findall(output)]
 
 

@@ -28,6 +28,7 @@ from dry_run import ANSWER, TOP, Pair, answer_of
 from images import COUNT, MANY, answers_to_many, answers_to_row, faults_of_environment
 from power_ons import POWER_ONS, answers_to_power_ons, counted_rows
 from rows import Row, fault_of, read_rows
+from silent import faults_of_silent
 
 HERE = Path(__file__).resolve().parent
 FAULTS = (Silent, ValueError, OSError, subprocess.SubprocessError)
@@ -141,7 +142,10 @@ def compare_counted(only, pair, pool):
 
 
 def work_at_random(pair, seed, scripts, tests):
-    """The comparisons of scripts and of tests at random, in chunks: each has names with faults."""
+    """The comparisons of scripts in which nothing is found, of scripts and of tests at random, in chunks: each has names with faults."""
+    for first in range(0, scripts, CHUNK):
+        # numbers far enough from one another for the scripts in which something is found
+        yield functools.partial(faults_of_silent, seed, 10 * first, min(CHUNK, scripts - first), pair)
     for kind, count in (("script", scripts), ("test", tests)):
         for first in range(0, count, CHUNK):
             yield functools.partial(faults_of_random, kind, seed, range(first, min(first + CHUNK, count)), pair)

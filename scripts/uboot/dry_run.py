@@ -47,6 +47,9 @@ class Copy:
         command = [self.program, subcommand, "-c", self.config, *words]
         return subprocess.run(command, capture_output=True, timeout=60, **streams)
 
+    def check(self, *words):
+        return subprocess.run([self.program, "check", *words], capture_output=True, timeout=60)
+
     def store(self, variables):
         """Stores an environment by `fwenv import`."""
         self.image.write_bytes(bytes(self.size))
@@ -55,10 +58,10 @@ class Copy:
         if done.returncode != 0:
             raise ValueError(f"fwenv import: status {done.returncode}, {done.stderr!r}")
 
-    def session(self, text, stubs=b"", default=None):
-        """What a session of a board's shell prints."""
+    def session(self, text, stubs=b"", default=None, shell="board"):
+        """What a session of a shell prints."""
         self.stubs.write_bytes(stubs)
-        words = ["--shell", "board", "--stubs", self.stubs]
+        words = ["--shell", shell, "--stubs", self.stubs]
         if default is not None:
             self.image.write_bytes(bytes(self.size))
             self.text.write_bytes(text_of(default))

@@ -54,8 +54,8 @@ FAULTS = (
         "boot_extlinux",
         "sysboot",
         "no `extlinux.conf` is read",
-        "This U-Boot has no command `sysboot`. A disk with that file, as Debian's `u-boot-menu` writes it, is found, "
-        "`EXTLINUX FAILED: continuing...` is printed, and the search goes on.",
+        "This U-Boot has no command `sysboot`. Of a disk with that file, as of Debian's `u-boot-menu`, `EXTLINUX FAILED: continuing...` is "
+        "printed, and the search goes on.",
     ),
     Fault(
         "am335x_boneblack am335x_evm",
@@ -85,29 +85,28 @@ FAULTS = (
         "loadimage loadfdt",
         "bootpart bootdir",
         "`mmcboot` can't load a kernel",
-        "Nothing sets the partition and the folder. `bootcmd` takes other scripts, but `run mmcboot`, typed by hand, loads nothing.",
+        "Nothing sets the partition and the folder. `bootcmd` takes other scripts; `run mmcboot`, by hand, loads nothing.",
     ),
     Fault(
         "omap4_panda",
         "bootcmd",
         "init_console",
         "an error at each start",
-        "The variable is in another board's environment. The error is printed, and the boot goes on.",
+        "The variable is another board's. The boot goes on.",
     ),
     Fault(
         "mx6cuboxi",
         "update_sd_firmware",
         "update_sd_firmware_filename",
         "an update writes another file",
-        "Without a file's name `dhcp` and `tftp` load what the server or `bootfile` names, and this is written over the U-Boot on the card.",
+        "Without a file's name `dhcp` and `tftp` load what the server or `bootfile` names, which is written over the card's U-Boot.",
     ),
     Fault(
         "qcm6490",
         "fastboot",
         "fastboot fastboot_addr_r",
         "no `fastboot`",
-        "This U-Boot is built without `fastboot`, so that `Enable fastboot mode` in its menu runs an unknown command, and without the code that "
-        "sets the address.",
+        "This U-Boot lacks `fastboot`, which `Enable fastboot mode` in its menu runs, and the code that sets the address.",
     ),
 )
 # The names in findings that are no fault of the board, by why they are none
@@ -158,8 +157,8 @@ def look(program, folder, path):
     for start in {b"preboot", b"bootcmd", b"altbootcmd"} & set(variables):
         lines += [("run", start.decode(), line) for line in called(program, below, "run", name, start.decode())[1] if "not defined" in line]
     for how, start, line in lines:
-        # what releases of U-Boot do in different ways is no fault
-        if line.endswith("[exit]"):
+        # what another release of U-Boot, or another shell, does in a different way is no fault
+        if line.endswith(("[exit]", "[and-or]")):
             continue
         if match := FOUND.fullmatch(line):
             found.lines[how, match[1] or start, match[2] or match[3]].append(line)

@@ -13,7 +13,8 @@ use Rattle.hush_commands.specs.declared.board_rules.Reply.TheVariants.{Status, T
 use Rattle.hush_commands.specs.declared.departure.Leaving.TheVariants.{Boots, Resets, Asks}
 use Rattle.hush_commands.specs.Builtins.{builtin_of}
 use Rattle.board_file.specs.declared.board_fault.LineFault.{LineFault}
-use Rattle.board_file.specs.declared.board_fault.LineFault.TheVariants.{Nul, Long, Form, NoPattern, Minus, Builtin, NoAnswer, Open, NoScript, NoStatus, Unreachable}
+use Rattle.board_file.specs.declared.board_fault.LineFault.TheVariants.{Nul, Long, Form, NoPattern, Words, Minus, Builtin, NoAnswer, Open, NoScript, NoStatus, Unreachable}
+use Rattle.board_file.specs.Patterns.{pattern_fault}
 use Rattle.board_file.specs.BoardLines.{LineOrFault, cut_at_arrow, read_line}
 use Rattle.board_file.specs.BoardFiles.{RulesOrFault, board_of}
 
@@ -77,6 +78,11 @@ at_fault : map read_line ((codes "#" ++ 0 ∷ []) ∷ replicate 4097 35 ∷ code
     ≡ Err Nul ∷ Err Long ∷ Err Form ∷ Err Form ∷ Err Form ∷ Err NoPattern ∷ Err Minus ∷ Err Minus ∷ Err Minus ∷ Err Minus ∷ []
 unfolding builtin_of
 at_fault = refl
+
+-- patterns of 256 words and of one more
+long_patterns : map pattern_fault (replicate 256 (exactly (codes "a")) ∷ replicate 257 (exactly (codes "a")) ∷ []) ≡ None ∷ Some Words ∷ []
+unfolding exactly builtin_of
+long_patterns = refl
 
 answer_at_fault : read_line (codes "dhcp ->") ≡ Err NoAnswer
 unfolding builtin_of

@@ -1,5 +1,5 @@
 -- The patterns of a board file (docs/runs.md, "Board files").
-use Rattle.std.specs.Prelude.{ℕ, ◌==◌, ◌-◌, ◌&&◌, ◌||◌, not, Bool, true, false, if◌then◌else◌, List, [], ◌∷◌, codes, length, take, filter, map, is_some, Option, Some, None, slice_index}
+use Rattle.std.specs.Prelude.{ℕ, ◌==◌, nat_lt, ◌-◌, ◌&&◌, ◌||◌, not, Bool, true, false, if◌then◌else◌, List, [], ◌∷◌, codes, length, take, filter, map, is_some, Option, Some, None, slice_index}
 use Rattle.std.specs.List.{list_any}
 use Rattle.std.specs.Str.{bytes_eq}
 use Rattle.text_parts.specs.Bytes.{begins_with}
@@ -9,7 +9,7 @@ use Rattle.hush_commands.specs.Builtins.{builtin_of, builtins, name_of}
 use Rattle.hush_commands.specs.CommandNames.{is_dot, without_width}
 use Rattle.hush_commands.specs.CommandNames.{begins_with as is_beginning}
 use Rattle.board_file.specs.declared.board_fault.LineFault.{LineFault}
-use Rattle.board_file.specs.declared.board_fault.LineFault.TheVariants.{NoPattern, Minus, Builtin}
+use Rattle.board_file.specs.declared.board_fault.LineFault.TheVariants.{NoPattern, Words, Minus, Builtin}
 
 abbrev pub star : ℕ
 star = 42
@@ -76,10 +76,18 @@ only_widths text = list_any is_dot text && names_builtin (without_width text)
 abbrev pub is_answered : PatternWord → Bool
 is_answered w = if w.begins then only_widths w.text else is_some (builtin_of w.text)
 
+-- how many words a pattern may have
+abbrev pub most_words : ℕ
+most_words = 256
+
+-- what is wrong with the first word of a pattern
+abbrev pub first_fault : PatternWord → (pattern : List PatternWord) → Option LineFault
+first_fault w pattern =
+    if begins_with minus w.text then Some Minus
+    else if is_answered w && not (is_asked pattern) then Some Builtin
+    else None
+
 -- what is wrong with a pattern
 abbrev pub pattern_fault : List PatternWord → Option LineFault
 pattern_fault [] = Some NoPattern
-pattern_fault (w ∷ ws) =
-    if begins_with minus w.text then Some Minus
-    else if is_answered w && not (is_asked (w ∷ ws)) then Some Builtin
-    else None
+pattern_fault (w ∷ ws) = if nat_lt most_words (length (w ∷ ws)) then Some Words else first_fault w (w ∷ ws)

@@ -16,6 +16,8 @@ pub enum LineFault {
     Form,
     /// Nothing is before `->`.
     NoPattern,
+    /// Its pattern has more than 256 words.
+    Words,
     /// Its first word begins with `-`, and it isn't `-` and the name of a builtin alone.
     Minus,
     /// A builtin answers all of its calls.
@@ -48,6 +50,7 @@ impl LineFault {
                 b"neither a name, perhaps with a status, nor a pattern, -> and an answer"
             }
             LineFault::NoPattern => b"no pattern before ->",
+            LineFault::Words => b"a pattern of more than 256 words",
             LineFault::Minus => b"a - is for the name of a builtin alone",
             LineFault::Builtin => b"a builtin answers this itself",
             LineFault::NoAnswer => b"no answer after ->",

@@ -4,7 +4,7 @@ ghost use Rattle.std.specs.Str.{bytes_eq};
 ghost use Rattle.hush_commands.specs.CommandNames.{begins_with as is_beginning};
 ghost use Rattle.hush_commands.specs.StandInLines.{words_of};
 ghost use Rattle.board_file.specs.Patterns.{asks_env, asks_file, asks_setexpr, is_answered, is_asked, is_just, is_subcommand, names_builtin, names_subcommand, only_widths};
-ghost use Rattle.board_file.specs.Patterns.{pattern_fault, pattern_word, pattern_words};
+ghost use Rattle.board_file.specs.Patterns.{first_fault, pattern_fault, pattern_word, pattern_words};
 
 use crate::board_fault::LineFault;
 use crate::line_parts::next_word;
@@ -13,6 +13,9 @@ use hush_commands::{Bytes, PatternWord, is_builtin};
 use memchr::memchr;
 use std::alloc::{AllocError, Global};
 use text_parts::begins_with_byte;
+
+/// How many words a pattern may have, which each call is compared with: as many as a command takes on any board of U-Boot's.
+const MOST_WORDS: usize = 256;
 
 /// The names of the builtins.
 const BUILTINS: [&[u8]; 11] = [
@@ -75,10 +78,22 @@ pub(crate) fn pattern_fault(pattern: &[PatternWord]) -> Option<LineFault>
 {
     match pattern.split_first() {
         None => Some(LineFault::NoPattern),
-        Some((word, _)) if begins_with_byte(b'-', word.text.as_bytes()) => Some(LineFault::Minus),
-        Some((word, _)) if is_answered(word) && !is_asked(pattern) => Some(LineFault::Builtin),
-        Some(_) => None,
+        Some(_) if pattern.len() > MOST_WORDS => Some(LineFault::Words),
+        Some((word, _)) => first_fault(word, pattern),
     }
+}
+
+/// What is wrong with the first word of a pattern.
+fn first_fault(word: &PatternWord, pattern: &[PatternWord]) -> Option<LineFault>
+    ensures { result ≡ first_fault word.now pattern.now }
+{
+    if begins_with_byte(b'-', word.text.as_bytes()) {
+        return Some(LineFault::Minus);
+    }
+    if is_answered(word) && !is_asked(pattern) {
+        return Some(LineFault::Builtin);
+    }
+    None
 }
 
 /// Whether a builtin asks calls that a pattern fits.

@@ -1,7 +1,6 @@
 //! An open file: measured, read, written inside of its length, and flushed to storage.
 ghost use Rattle.std.specs.Prelude.{◌≤◌, length, IfOk};
 
-use std::alloc::Global;
 use std::fs::OpenFile;
 use std::io::{self, Error, ErrorKind, Read, Seek, SeekFrom, Write};
 
@@ -23,13 +22,12 @@ impl<F: Read + Write + Seek + OpenFile + Drop> DeviceFile<F> {
         Ok(length as usize)
     }
 
-    /// The bytes from `at` on, at most `len` of them: fewer only at the end.
-    pub(crate) fn read(&mut self, alloc: Global, at: usize, len: usize) -> io::Result<Vec<u8>> {
+    /// Reads from `at` on until the room is full or the file ends, and answers how many bytes came.
+    pub(crate) fn read(&mut self, at: usize, room: &mut [u8]) -> io::Result<usize>
+        ensures { IfOk result (λ count. count ≤ length room.old) }
+    {
         self.file.seek(SeekFrom::Start(at as u64))?;
-        let mut bytes = vec![in alloc; 0u8; len]?;
-        let count = fill(&mut self.file, &mut bytes)?;
-        bytes.truncate(count);
-        Ok(bytes)
+        fill(&mut self.file, room)
     }
 
     /// Writes over what is there. A file that is too short by now is not written.

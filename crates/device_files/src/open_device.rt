@@ -108,8 +108,10 @@ impl<F: Read + Write + Seek + OpenFile + Drop, S: Start> Device for OpenDevice<F
     }
 
     fn read_at(&mut self, alloc: Global, at: usize, len: usize) -> Result<Vec<u8>, Fault> {
-        match self.files.read(alloc, at, len) {
-            Ok(bytes) => {
+        let mut bytes = vec![in alloc; 0u8; len]?;
+        match self.files.read(at, &mut bytes) {
+            Ok(count) => {
+                bytes.truncate(count);
                 self.calls.note(Call::Read(at, len, Snapshot::of(&bytes)));
                 Ok(bytes)
             }

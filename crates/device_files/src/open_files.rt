@@ -1,9 +1,9 @@
 //! One or two open files, the bytes of the second behind those of the first.
-ghost use Rattle.std.specs.Prelude.{IsErrOf};
+ghost use Rattle.std.specs.Prelude.{◌≡◌, IfErr};
+ghost use Rattle.devices.specs.declared.device.Fault.TheVariants.{Failed};
 
 use crate::device_file::DeviceFile;
 use devices::Fault;
-use std::alloc::Global;
 use std::fs::OpenFile;
 use std::io::{self, Error, ErrorKind, Read, Seek, Write};
 
@@ -39,7 +39,7 @@ impl<F: Read + Write + Seek + OpenFile + Drop> OpenFiles<F> {
 
     /// How many bytes there are.
     pub(crate) fn measure(&mut self) -> Result<usize, Fault>
-        ensures { IsErrOf result Fault.Changed → ⊥ }
+        ensures { IfErr result (λ fault. fault ≡ Failed) }
     {
         match &mut self.second {
             None => self.last.told(false, self.first.measure()),
@@ -50,24 +50,23 @@ impl<F: Read + Write + Seek + OpenFile + Drop> OpenFiles<F> {
         }
     }
 
-    /// The bytes from `at` on, at most `len` of them; it fails if they lie in both files.
-    pub(crate) fn read(&mut self, alloc: Global, at: usize, len: usize) -> Result<Vec<u8>, Fault>
-        ensures { IsErrOf result Fault.Changed → ⊥ }
+    /// Reads from `at` on until the room is full or the file ends, and answers how many bytes came; it fails if they lie in
+    /// both files.
+    pub(crate) fn read(&mut self, at: usize, room: &mut [u8]) -> Result<usize, Fault>
+        ensures { IfErr result (λ fault. fault ≡ Failed) }
     {
         let seam = self.first.length;
         match &mut self.second {
-            None => self.last.told(false, self.first.read(alloc, at, len)),
-            Some(second) if at >= seam => {
-                self.last.told(true, second.read(alloc, at - seam, len))
-            }
-            Some(_) if len > seam - at => self.last.told(false, in_both()),
-            Some(_) => self.last.told(false, self.first.read(alloc, at, len)),
+            None => self.last.told(false, self.first.read(at, room)),
+            Some(second) if at >= seam => self.last.told(true, second.read(at - seam, room)),
+            Some(_) if room.len() > seam - at => self.last.told(false, in_both()),
+            Some(_) => self.last.told(false, self.first.read(at, room)),
         }
     }
 
     /// Writes over what is there; it fails, and nothing is written, if that lies in both files or in none.
     pub(crate) fn write(&mut self, at: usize, bytes: &[u8]) -> Result<(), Fault>
-        ensures { IsErrOf result Fault.Changed → ⊥ }
+        ensures { IfErr result (λ fault. fault ≡ Failed) }
     {
         let seam = self.first.length;
         match &mut self.second {
@@ -80,7 +79,7 @@ impl<F: Read + Write + Seek + OpenFile + Drop> OpenFiles<F> {
 
     /// Flushes to storage what is not there yet.
     pub(crate) fn flush(&mut self) -> Result<(), Fault>
-        ensures { IsErrOf result Fault.Changed → ⊥ }
+        ensures { IfErr result (λ fault. fault ≡ Failed) }
     {
         self.last.told(false, self.first.flush())?;
         match &mut self.second {
@@ -93,7 +92,7 @@ impl<F: Read + Write + Seek + OpenFile + Drop> OpenFiles<F> {
 impl LastCall {
     /// Takes down what a call of a file came to.
     fn told<T: Drop>(&mut self, is_second: bool, outcome: io::Result<T>) -> Result<T, Fault>
-        ensures { IsErrOf result Fault.Changed → ⊥ }
+        ensures { IfErr result (λ fault. fault ≡ Failed) }
     {
         match outcome {
             Ok(value) => {
@@ -104,15 +103,11 @@ impl LastCall {
                 Ok(value)
             }
             Err(error) => {
-                let kind = error.kind();
                 *self = LastCall {
                     is_second,
-                    failure: Some(kind),
+                    failure: Some(error.kind()),
                 };
-                match kind {
-                    ErrorKind::OutOfMemory => Err(Fault::Memory),
-                    _ => Err(Fault::Failed),
-                }
+                Err(Fault::Failed)
             }
         }
     }

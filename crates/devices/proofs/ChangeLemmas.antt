@@ -1,10 +1,11 @@
 -- What copies that are written leave.
-use Rattle.std.proofs.Common.{Result, Ok, Err, OnOk, ◌≡◌, ◌⊎◌, inl, inr, ℕ, zero, suc, ◌+◌, ◌-◌, ◌≤◌, ◌<◌, List, [], ◌∷◌, ◌++◌, length, get_or, take, drop, Bool, true, false, if◌then◌else◌, refl, sym, ◌∙◌, ap, subst, arith, append_assoc, length-append, length-drop, length-take, take-append-drop}
+use Rattle.std.proofs.Common.{Result, Ok, Err, OnOk, ◌≡◌, ◌⊎◌, inl, inr, ℕ, zero, suc, ◌+◌, ◌-◌, ◌≤◌, ◌<◌, List, [], ◌∷◌, ◌++◌, length, get_or, take, drop, Bool, true, false, if◌then◌else◌, Option, Some, None, refl, sym, ◌∙◌, ap, subst, arith, append_assoc, length-append, length-drop, length-take, take-append-drop}
 use Rattle.std.proofs.lemmas.List.{take_at, drop_at, take_all, drop-drop, take_more, drop_more, take-append-le, length-take-le, take-take, drop-take}
 use Rattle.std.specs.Str.{bytes_eq}
 use Rattle.std.proofs.lemmas.Slice.Eq.{bytes_eq-Decides}
 use Rattle.devices.specs.declared.writing.Change.{Change}
 use Rattle.devices.specs.Device.{put, Torn, Only, Follows}
+use Rattle.devices.specs.Memory.{written_of}
 use Rattle.devices.specs.Changes.{is_same, Shows, AreAsRead, AreWritten, after, after_all, OneAtATime, KeepLength, IsInside, AreInside, IsApartFrom, AreApart}
 
 -- the bytes that are there are torn too
@@ -214,3 +215,19 @@ all_written (x ∷ xs) device keep inside found apart =
 pub ends : (changes : List Change) (device c : List ℕ) → c ≡ after_all changes device → OneAtATime changes device c
 ends [] device c is = is
 ends (x ∷ xs) device c is = inr (ends xs (after x device) c is)
+
+-- what is left of a write that is cut: its first bytes in the place of those that were there
+pub torn_front : (k : Option ℕ) (at : ℕ) (bytes device left : List ℕ) → at + length bytes ≤ length device → left ≡ put at (written_of k bytes) device → Torn at (length bytes) device left
+torn_front k at bytes device left le is =
+    let front = written_of k bytes in
+    let short : length front ≤ length bytes = no_longer k bytes in
+    let inside : at + length front ≤ length device = omega (arith, short, le) in
+    record {
+      before = ap (λ l. take at l) is ∙ ahead at front device 0 at inside (omega arith);
+      after = ap (λ l. drop (at + length bytes) l) is ∙ behind at front device (at + length bytes) inside (omega (arith, short));
+      same_length = ap length is ∙ length-put at front device inside;
+    }
+  where
+    no_longer : (k : Option ℕ) (bytes : List ℕ) → length (written_of k bytes) ≤ length bytes
+    no_longer None bytes = omega arith
+    no_longer (Some k) bytes = omega (arith, length-take k bytes)

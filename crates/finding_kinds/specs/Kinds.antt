@@ -13,6 +13,10 @@ code_of kind.Syntax = codes "syntax"
 code_of kind.OtherShell = codes "other-shell"
 code_of kind.UnknownCommand = codes "unknown-command"
 code_of kind.Exit = codes "exit"
+code_of kind.AndOr = codes "and-or"
+code_of kind.IfStatus = codes "if-status"
+code_of kind.LoopStatus = codes "loop-status"
+code_of kind.StaleStatus = codes "stale-status"
 code_of kind.WrongUse = codes "wrong-use"
 code_of kind.TestOperator = codes "test-operator"
 code_of kind.RunUndefined = codes "run-undefined"
@@ -30,6 +34,10 @@ severity_of kind.Syntax = severity.Error
 severity_of kind.OtherShell = severity.Error
 severity_of kind.UnknownCommand = severity.Error
 severity_of kind.Exit = severity.Warning
+severity_of kind.AndOr = severity.Warning
+severity_of kind.IfStatus = severity.Warning
+severity_of kind.LoopStatus = severity.Warning
+severity_of kind.StaleStatus = severity.Warning
 severity_of kind.WrongUse = severity.Error
 severity_of kind.TestOperator = severity.Error
 severity_of kind.RunUndefined = severity.Error
@@ -44,7 +52,8 @@ severity_of kind.ValueType = severity.Error
 -- all of them
 abbrev pub all_kinds : List FindingKind
 all_kinds =
-    kind.CarriageReturn ∷ kind.Syntax ∷ kind.OtherShell ∷ kind.UnknownCommand ∷ kind.Exit ∷ kind.WrongUse ∷ kind.TestOperator
+    kind.CarriageReturn ∷ kind.Syntax ∷ kind.OtherShell ∷ kind.UnknownCommand ∷ kind.Exit ∷ kind.AndOr ∷ kind.IfStatus ∷ kind.LoopStatus
+    ∷ kind.StaleStatus ∷ kind.WrongUse ∷ kind.TestOperator
     ∷ kind.RunUndefined ∷ kind.RunUnknown ∷ kind.HiddenAssignment ∷ kind.QuotedFor ∷ kind.UndefinedName ∷ kind.NoVariable ∷ kind.NoScript ∷ kind.ValueType ∷ []
 
 abbrev pub is_called : List ℕ → FindingKind → Bool

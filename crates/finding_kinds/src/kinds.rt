@@ -27,6 +27,14 @@ pub enum FindingKind {
     UnknownCommand,
     /// An `exit`, which older boards ignore.
     Exit,
+    /// A chain of `&&` and `||`, of which a board skips more than other shells.
+    AndOr,
+    /// An `if` without `else`, whose status is asked for.
+    IfStatus,
+    /// A `while` or `until` whose status is asked for.
+    LoopStatus,
+    /// A `$?` with which a text or a turn of `for` begins.
+    StaleStatus,
     /// A command with words that it can't have, or that say something else than is meant.
     WrongUse,
     /// A word of `test` that is written as an operator, but isn't one.
@@ -50,12 +58,16 @@ pub enum FindingKind {
 }
 
 /// All of them, in the order of the table.
-const ALL: [FindingKind; 15] = [
+const ALL: [FindingKind; 19] = [
     FindingKind::CarriageReturn,
     FindingKind::Syntax,
     FindingKind::OtherShell,
     FindingKind::UnknownCommand,
     FindingKind::Exit,
+    FindingKind::AndOr,
+    FindingKind::IfStatus,
+    FindingKind::LoopStatus,
+    FindingKind::StaleStatus,
     FindingKind::WrongUse,
     FindingKind::TestOperator,
     FindingKind::RunUndefined,
@@ -79,6 +91,10 @@ impl FindingKind {
             FindingKind::OtherShell => "other-shell",
             FindingKind::UnknownCommand => "unknown-command",
             FindingKind::Exit => "exit",
+            FindingKind::AndOr => "and-or",
+            FindingKind::IfStatus => "if-status",
+            FindingKind::LoopStatus => "loop-status",
+            FindingKind::StaleStatus => "stale-status",
             FindingKind::WrongUse => "wrong-use",
             FindingKind::TestOperator => "test-operator",
             FindingKind::RunUndefined => "run-undefined",
@@ -99,6 +115,10 @@ impl FindingKind {
         match self {
             FindingKind::CarriageReturn
             | FindingKind::Exit
+            | FindingKind::AndOr
+            | FindingKind::IfStatus
+            | FindingKind::LoopStatus
+            | FindingKind::StaleStatus
             | FindingKind::HiddenAssignment
             | FindingKind::QuotedFor
             | FindingKind::UndefinedName => Severity::Warning,

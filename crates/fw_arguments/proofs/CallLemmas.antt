@@ -6,7 +6,7 @@ use Rattle.clap.specs.Words.{AddsAliases, Row, Rule, Text, first_of, rule_of}
 use Rattle.clap.specs.declared.builder.arg.Arg.{Arg}
 use Rattle.envimg_core.specs.declared.geometry.Order.{Order}
 use Rattle.fw_arguments.specs.Calls.{Defaults, Job, defaults_of, LockFiles, is_client, job_of, locks_of, with_copy}
-use Rattle.fw_arguments.specs.Checks.{file_alone, file_check_by, file_check_of, names_environment, rules_of}
+use Rattle.fw_arguments.specs.Checks.{file_alone, file_check_by, file_check_of, needs_environment, rules_of}
 use Rattle.hush_commands.specs.declared.shell.Shell.{Shell}
 use Rattle.fw_arguments.specs.DryRuns.{DryRun, GivenScript, and_then, run_within, script_of, script_within}
 use Rattle.fw_arguments.specs.Values.{first_or, is_given}
@@ -58,8 +58,8 @@ pub report_is : (order chosen : Order) (rows : List Row) (subject : Subject) →
     chosen ≡ either_order order (order_by (source_in (codes "big-endian") rows)) → Ok subject ≡ subject_of rows → Ok (record { order = chosen; subject = subject }) ≡ report_of order rows
 report_is order chosen rows subject p q = λ i. in_order (p i) (q i)
 
--- a check of scripts in files, if an environment is named as well
-pub refused_file : (rows : List Row) (paths : List Text) (text : Text) → text ≡ file_alone → names_environment rows ≡ true → Err text ≡ file_check_of paths rows
+-- a check of scripts in files alone, if something is given that is of an environment
+pub refused_file : (rows : List Row) (paths : List Text) (text : Text) → text ≡ file_alone → needs_environment rows ≡ true → Err text ≡ file_check_of paths rows
 refused_file rows paths text is named =
     ap Err is ∙ ap (λ (b : Bool). if b then Err file_alone else and_then (rules_of rows) (λ rules. Ok (file_check_by paths rows rules))) (sym named)
 

@@ -15,7 +15,7 @@ use Rattle.fw_arguments.specs.declared.check_requests.EnvironmentCheck as enviro
 use Rattle.fw_arguments.specs.declared.check_requests.FileCheck as files
 
 -- a check over an environment: whose rules count, the stand-ins' file, the board file and that of known names, if there
--- are any, what counts, and the names that it begins with
+-- are any, what counts, the names that it begins with, and the paths of the scripts in files that are checked over it
 pub record EnvironmentCheck : Type 0 where
   pub shell : Shell
   pub stand_ins : Option Text
@@ -23,8 +23,9 @@ pub record EnvironmentCheck : Type 0 where
   pub known : Option Text
   pub choice : Choice
   pub names : List Text
+  pub scripts : List Text
 
--- a check of the scripts in files
+-- a check of the scripts in files alone
 pub record FileCheck : Type 0 where
   pub shell : Shell
   pub stand_ins : Option Text
@@ -39,7 +40,7 @@ wrong_code texts = find (λ text. not (is_code text)) texts
 -- what is wrong with it
 abbrev pub bad_code : Text
 bad_code =
-    codes "' for '--ignore <CODE>'\n  [possible values: carriage-return, syntax, other-shell, unknown-command, exit, wrong-use, test-operator, run-undefined, run-unknown, hidden-assignment, quoted-for, undefined-name, no-variable, no-script, value-type]\n\nFor more information, try '--help'.\n"
+    codes "' for '--ignore <CODE>'\n  [possible values: carriage-return, syntax, other-shell, unknown-command, exit, and-or, if-status, loop-status, stale-status, wrong-use, test-operator, run-undefined, run-unknown, hidden-assignment, quoted-for, undefined-name, no-variable, no-script, value-type]\n\nFor more information, try '--help'.\n"
 
 abbrev pub choice_by : List Row → Format → Choice
 choice_by rows format = record { ignored = all_values (codes "ignore") rows; strict = is_given (codes "strict") rows; format = format }
@@ -58,27 +59,30 @@ rules_of rows = and_then (shell_of board_shell rows) (λ shell. and_then (choice
 
 abbrev pub environment_check_by : List Row → Shell × Choice → EnvironmentCheck
 environment_check_by rows rules =
-    record { shell = rules.0; stand_ins = first_of (codes "stubs") rows; board = first_of (codes "board") rows; known = first_of (codes "known") rows; choice = rules.1; names = all_values (codes "names") rows }
+    record { shell = rules.0; stand_ins = first_of (codes "stubs") rows; board = first_of (codes "board") rows; known = first_of (codes "known") rows; choice = rules.1; names = all_values (codes "names") rows; scripts = all_values (codes "script") rows }
 
 abbrev pub environment_check_of : List Row → Result EnvironmentCheck Text
 environment_check_of rows = and_then (rules_of rows) (λ rules. Ok (environment_check_by rows rules))
 
--- whether an environment is named, or variables of one
+-- whether an environment is named
 abbrev pub names_environment : List Row → Bool
-names_environment rows =
-    is_given (codes "names") rows || (is_given (codes "config") rows || (is_given (codes "default") rows || (is_given (codes "env") rows || (is_given (codes "env-source") rows || (is_given (codes "env-plain") rows || (is_given (codes "size") rows || is_given (codes "known") rows))))))
+names_environment rows = is_given (codes "config") rows || (is_given (codes "env") rows || (is_given (codes "env-source") rows || is_given (codes "env-plain") rows))
 
--- what is wrong if the scripts of files are asked for as well
+-- whether something is given that is of an environment
+abbrev pub needs_environment : List Row → Bool
+needs_environment rows = is_given (codes "names") rows || (is_given (codes "default") rows || (is_given (codes "size") rows || is_given (codes "known") rows))
+
+-- what is wrong if it is given with the scripts of files alone
 abbrev pub file_alone : Text
 file_alone =
-    codes "error: the argument '-f <FILE>' cannot be used with '[NAMES]...', '-c <FILE>', '--default <FILE>', '--env <FILE>', '--env-source <FILE>', '--env-plain <FILE>', '--size <N>' or '--known <FILE>'\n\nUsage: fwenv check [OPTIONS] [NAMES]...\n\nFor more information, try '--help'.\n"
+    codes "error: the argument '-f <FILE>' cannot be used with '[NAMES]...', '--default <FILE>', '--size <N>' or '--known <FILE>' without '-c <FILE>', '--env <FILE>', '--env-source <FILE>' or '--env-plain <FILE>'\n\nUsage: fwenv check [OPTIONS] [NAMES]...\n\nFor more information, try '--help'.\n"
 
 abbrev pub file_check_by : List Text → List Row → Shell × Choice → FileCheck
 file_check_by paths rows rules = record { shell = rules.0; stand_ins = first_of (codes "stubs") rows; board = first_of (codes "board") rows; choice = rules.1; paths = paths }
 
 abbrev pub file_check_of : List Text → List Row → Result FileCheck Text
 file_check_of paths rows =
-    if names_environment rows then Err file_alone
+    if needs_environment rows then Err file_alone
     else and_then (rules_of rows) (λ rules. Ok (file_check_by paths rows rules))
 
 -- the code's answers, in this form
@@ -87,7 +91,7 @@ rules_view rules = (rules.0, choice_view rules.1)
 
 abbrev pub environment_check_view : environments.EnvironmentCheck → EnvironmentCheck
 environment_check_view c =
-    record { shell = c.shell; stand_ins = option_map (λ p. p.now) c.stand_ins; board = option_map (λ p. p.now) c.board; known = option_map (λ p. p.now) c.known; choice = choice_view c.choice; names = texts c.names }
+    record { shell = c.shell; stand_ins = option_map (λ p. p.now) c.stand_ins; board = option_map (λ p. p.now) c.board; known = option_map (λ p. p.now) c.known; choice = choice_view c.choice; names = texts c.names; scripts = texts c.scripts }
 
 abbrev pub file_check_view : files.FileCheck → FileCheck
 file_check_view c = record { shell = c.shell; stand_ins = option_map (λ p. p.now) c.stand_ins; board = option_map (λ p. p.now) c.board; choice = choice_view c.choice; paths = map (λ p. p.now) c.paths.now }

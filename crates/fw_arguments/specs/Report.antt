@@ -4,7 +4,7 @@ use Rattle.std.specs.Str.{bytes_eq}
 use Rattle.clap.specs.Words.{Row, Text, all_of, first_of}
 use Rattle.envimg_core.specs.declared.geometry.Order.{Order}
 use Rattle.fw_arguments.specs.Calls.{Call, call_of, call_view}
-use Rattle.fw_arguments.specs.Checks.{FileCheck, file_check_of, file_check_view}
+use Rattle.fw_arguments.specs.Checks.{FileCheck, file_check_of, file_check_view, names_environment}
 use Rattle.fw_arguments.specs.ImageRequests.{ImageRequest, image_request_of, image_request_view}
 use Rattle.fw_arguments.specs.StandardInput.{read_twice, reads_twice}
 use Rattle.fw_arguments.specs.Values.{first_or, is_given}
@@ -70,10 +70,10 @@ abbrev pub made : Result ImageRequest Text → Result Asked Text
 made (Ok image) = Ok (Make image)
 made (Err text) = Err text
 
--- the scripts in files are checked if some are given, else those of an environment
+-- the scripts in files are checked alone if some are given and no environment is named, else over an environment
 abbrev pub checked_by : Option (List Text) → Order → List Row → Result Asked Text
 checked_by None order rows = worked (call_of order (codes "check") rows)
-checked_by (Some paths) order rows = checked (file_check_of paths rows)
+checked_by (Some paths) order rows = if names_environment rows then worked (call_of order (codes "check") rows) else checked (file_check_of paths rows)
 
 abbrev pub asked_once : Order → Text → List Row → Result Asked Text
 asked_once order name rows =

@@ -132,8 +132,8 @@ pub(crate) const SEVERAL_SCRIPTS: &[u8] =
 
 /// What is wrong if the script of a file is to be checked and an environment is named.
 pub(crate) const FILE_ALONE: &[u8] =
-    b"error: the argument '-f <FILE>' cannot be used with '[NAMES]...', '-c <FILE>', \
-    '--default <FILE>', '--env <FILE>', '--env-source <FILE>', '--env-plain <FILE>', '--size <N>' or '--known <FILE>'\n\nUsage: fwenv check [OPTIONS] [NAMES]...\n\n\
+    b"error: the argument '-f <FILE>' cannot be used with '[NAMES]...', '--default <FILE>', '--size <N>' or \
+    '--known <FILE>' without '-c <FILE>', '--env <FILE>', '--env-source <FILE>' or '--env-plain <FILE>'\n\nUsage: fwenv check [OPTIONS] [NAMES]...\n\n\
     For more information, try '--help'.\n";
 
 pub(crate) const BAD_FORMAT: &[u8] =
@@ -143,5 +143,5 @@ pub(crate) const BAD_FORMAT: &[u8] =
 /// What is wrong with a code of a kind of finding, after it.
 pub(crate) const BAD_CODE: &[u8] =
     b"' for '--ignore <CODE>'\n  [possible values: carriage-return, syntax, other-shell, \
-    unknown-command, exit, wrong-use, test-operator, run-undefined, run-unknown, hidden-assignment, quoted-for, undefined-name, no-variable, \
+    unknown-command, exit, and-or, if-status, loop-status, stale-status, wrong-use, test-operator, run-undefined, run-unknown, hidden-assignment, quoted-for, undefined-name, no-variable, \
     no-script, value-type]\n\nFor more information, try '--help'.\n";

@@ -4,7 +4,7 @@ ghost use Rattle.clap.specs.Words.{found_of, rows_of};
 ghost use Rattle.finding_kinds.specs.Choices.{choice_view};
 ghost use Rattle.fw_arguments.specs.DryRuns.{and_then, texts};
 ghost use Rattle.fw_arguments.specs.Formats.{format_of};
-ghost use Rattle.fw_arguments.specs.Checks.{choice_by, choice_of, environment_check_by, environment_check_of, environment_check_view, file_check_by, file_check_of, file_check_view, names_environment, rules_of, rules_view, wrong_code};
+ghost use Rattle.fw_arguments.specs.Checks.{choice_by, choice_of, environment_check_by, environment_check_of, environment_check_view, file_check_by, file_check_of, file_check_view, names_environment, needs_environment, rules_of, rules_view, wrong_code};
 ghost use Rattle.fw_arguments.specs.WordFaults.{word_seen};
 
 use crate::argument_texts::{BAD_CODE, FILE_ALONE, INVALID_VALUE};
@@ -18,7 +18,7 @@ use finding_kinds::{Choice, Format, is_code};
 use hush_commands::Shell;
 
 /// A check over an environment: `check [--shell SHELL] [--stubs FILE] [--board FILE] [--known FILE] [--ignore CODE].. [--strict]
-/// [NAMES]`.
+/// [-f FILE].. [NAMES]`.
 #[derive(Clone, Copy, Debug)]
 pub struct EnvironmentCheck<'m, 'w> {
     /// Whose rules count where shells differ.
@@ -33,9 +33,11 @@ pub struct EnvironmentCheck<'m, 'w> {
     pub choice: Choice<'m>,
     /// The variables that it begins with.
     pub names: Option<&'m [&'w str]>,
+    /// The paths of the scripts in files that are checked over it, `-` for standard input.
+    pub scripts: Option<&'m [&'w str]>,
 }
 
-/// A check of scripts in files: `check [--shell SHELL] [--stubs FILE] [--board FILE] [--ignore CODE].. [--strict]
+/// A check of scripts in files without an environment: `check [--shell SHELL] [--stubs FILE] [--board FILE] [--ignore CODE].. [--strict]
 /// (-f FILE)..`.
 #[derive(Clone, Copy, Debug)]
 pub struct FileCheck<'m, 'w> {
@@ -78,6 +80,7 @@ fn environment_check_by<'m, 'w>(
         known: first(found, "known"),
         choice: rules.1,
         names: values(found, "names"),
+        scripts: values(found, "script"),
     }
 }
 
@@ -89,7 +92,7 @@ pub(crate) fn read_file_check<'m, 'w>(
     ensures { word_seen file_check_view result
         ≡ file_check_of (map (λ p. p.now) paths.now) (rows_of (found_of found.now)) }
 {
-    if names_environment(found) {
+    if needs_environment(found) {
         return Err(WordFault::of(FILE_ALONE));
     }
     match read_rules(found) {
@@ -199,16 +202,22 @@ fn first_wrong<'w>(texts: &[&'w str]) -> Option<&'w str>
     None
 }
 
-/// Whether an environment is named, or variables of one.
-fn names_environment(found: &ArgMatches<'_>) -> bool
+/// Whether an environment is named.
+pub(crate) fn names_environment(found: &ArgMatches<'_>) -> bool
     ensures { result ≡ names_environment (rows_of (found_of found.now)) }
 {
-    is_given(found, "names")
-        || is_given(found, "config")
-        || is_given(found, "default")
+    is_given(found, "config")
         || is_given(found, "env")
         || is_given(found, "env-source")
         || is_given(found, "env-plain")
+}
+
+/// Whether something is given that is of an environment.
+fn needs_environment(found: &ArgMatches<'_>) -> bool
+    ensures { result ≡ needs_environment (rows_of (found_of found.now)) }
+{
+    is_given(found, "names")
+        || is_given(found, "default")
         || is_given(found, "size")
         || is_given(found, "known")
 }

@@ -9,7 +9,7 @@ ghost use Rattle.fw_arguments.specs.WordFaults.{word_seen};
 use crate::argument_texts::{CONFIG_AND_FILE, READ_TWICE};
 use crate::arguments::{chosen_order, either_order, first, first_or, is_given, values};
 use crate::call::{Call, read_call};
-use crate::check_requests::{FileCheck, read_file_check};
+use crate::check_requests::{FileCheck, names_environment, read_file_check};
 use crate::image_request::{ImageRequest, read_image_request};
 use crate::standard_input::reads_twice;
 use crate::table::CONFIG_PATH;
@@ -88,7 +88,8 @@ fn ask<'m, 'w>(
     ask_to_work(order, name, found)
 }
 
-/// The check that the arguments of `check` ask for: of the scripts in files, if some are given, else of an environment.
+/// The check that the arguments of `check` ask for: of an environment, if one is named or no file is given, else of the scripts in files
+/// alone.
 fn ask_to_check<'m, 'w>(
     order: Order,
     found: &'m ArgMatches<'w>,
@@ -98,6 +99,7 @@ fn ask_to_check<'m, 'w>(
 {
     match values(found, "script") {
         None => ask_to_work(order, "check", found),
+        Some(_) if names_environment(found) => ask_to_work(order, "check", found),
         Some(paths) => match read_file_check(paths, found) {
             Ok(check) => Ok(Asked::Check(check)),
             Err(fault) => Err(fault),

@@ -450,7 +450,7 @@ pub const CHECK_FILES: Row = Row {
     id: "script",
     names: Names::Letter('f'),
     takes: Takes::Many("FILE"),
-    help: "The file of a script, or - for standard input, in place of NAMES; any number of times",
+    help: "The file of a script, or - for standard input, in front of NAMES; any number of times",
 };
 
 /// `NAMES` of `run`
@@ -466,7 +466,7 @@ pub const CHECK_NAMES: Row = Row {
     id: "names",
     names: Names::Operand,
     takes: Takes::Any("NAMES"),
-    help: "The variables whose scripts are looked at first; without names bootcmd, altbootcmd and preboot",
+    help: "The variables whose scripts are looked at first; without names or -f bootcmd, altbootcmd and preboot",
 };
 
 /// `--known FILE`

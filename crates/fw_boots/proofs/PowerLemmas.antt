@@ -5,7 +5,6 @@ use Rattle.boot_search.specs.declared.board.Answer.{Answer}
 use Rattle.std.specs.Prelude.{IfOk, OnOk, unwrap_or}
 use Rattle.std.specs.List.{list_all}
 use Rattle.std.proofs.lemmas.Bool.{false≢true}
-use Rattle.envimg_core.specs.Environment.{Environment}
 use Rattle.envimg_core.specs.Geometry.{Shape}
 use Rattle.envvars_core.specs.Variables.{Contents}
 use Rattle.envvars_core.specs.declared.refusals.Refusal.{Refusal}
@@ -111,27 +110,26 @@ run_is cuts answers (Ok t) (Some reason) given rules tree old mid after o depart
 -- ---- the count
 
 pub count_again : (r : Result Script AllocError) (reason : Option Reason) (rules : Rules) (tree : Option Chains) (old mid after : Held) (o : RunOutcome)
-    (env : Environment) (text : List ℕ) → mid ≡ undone 0 old → RunsBy reason rules tree mid after o → IsCounted reason env o.status text →
+    (text : List ℕ) → mid ≡ undone 0 old → RunsBy reason rules tree mid after o → IsCounted reason after o.status text →
     OnOk r (undone 0 after ≡ undone 0 old)
-count_again (Err e) reason rules tree old mid after o env text is runs counted = tt
-count_again (Ok t) None rules tree old mid after o env text is runs counted = absurd counted
-count_again (Ok t) (Some reason) rules tree old mid after o env text is runs counted = back_again reason rules tree old mid after o is runs
+count_again (Err e) reason rules tree old mid after o text is runs counted = tt
+count_again (Ok t) None rules tree old mid after o text is runs counted = absurd counted
+count_again (Ok t) (Some reason) rules tree old mid after o text is runs counted = back_again reason rules tree old mid after o is runs
 
 tree_read : (shell : Shell) (text text' : List ℕ) (tree : Option Chains) → text ≡ text' → read_in (bodies_of shell) text ≡ Some tree → tree ≡ tree_in shell text'
 tree_read shell text text' tree is reads =
     sym (ap (λ (t : Option (Option Chains)). unwrap_or t None) (ap (read_in (bodies_of shell)) (sym is) ∙ reads))
 
 pub counted_is : (r : Result Script AllocError) (reason : Option Reason) (rules : Rules) (tree : Option Chains) (old mid after : Held) (o : RunOutcome)
-    (env : Environment) (text : List ℕ) → mid ≡ undone 0 old → RunsBy reason rules tree mid after o → env ≡ after.now.env → IsCounted reason env o.status text →
+    (text : List ℕ) → mid ≡ undone 0 old → RunsBy reason rules tree mid after o → IsCounted reason after o.status text →
     IfOk r (λ script. read_in (bodies_of rules.shell) text ≡ Some (tree_of script)) →
     IfOk r (λ script. tree_of script ≡ counted_tree rules tree (undone 0 old))
-counted_is (Err e) reason rules tree old mid after o env text is runs left counted reads = tt
-counted_is (Ok script) None rules tree old mid after o env text is runs left counted reads = absurd counted
-counted_is (Ok script) (Some reason) rules tree old mid after o env text is runs left counted reads =
+counted_is (Err e) reason rules tree old mid after o text is runs counted reads = tt
+counted_is (Ok script) None rules tree old mid after o text is runs counted reads = absurd counted
+counted_is (Ok script) (Some reason) rules tree old mid after o text is runs counted reads =
     let run = meaning rules tree mid in
-    let by : text ≡ counted_text run.1.held.now.env run.1.status =
-    counted ∙ ap (λ (n : ℕ). counted_text env n) runs.1.status
-    ∙ ap (λ (e : Environment). counted_text e run.1.status) (left ∙ ap (λ (h : Held). h.now.env) runs.1.held) in
+    let by : text ≡ counted_text run.1.held run.1.status =
+    counted ∙ ap (λ (n : ℕ). counted_text after n) runs.1.status ∙ ap (λ (h : Held). counted_text h run.1.status) runs.1.held in
     tree_read rules.shell text _ (tree_of script) by reads ∙ ap (counted_tree rules tree) is
 
 -- ---- a power-on

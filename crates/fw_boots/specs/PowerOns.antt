@@ -1,13 +1,18 @@
 -- What a power-on comes to (docs/boot.md).
-use Rattle.std.specs.Prelude.{◌≡◌, ℕ, ◌+◌, ◌-◌, ◌==◌, min, nat_lt, Bool, true, false, ◌&&◌, if◌then◌else◌, List, [], ◌∷◌, ◌++◌, map, length, take, drop, slice_get, Option, Some, None, unwrap_or, codes}
+use Rattle.std.specs.Prelude.{◌≡◌, ℕ, ◌+◌, ◌-◌, ◌%◌, ◌==◌, nat_lt, Bool, true, false, ◌&&◌, if◌then◌else◌, List, [], ◌∷◌, ◌++◌, map, length, take, drop, slice_get, Option, Some, None, unwrap_or, codes}
 use Rattle.std.specs.List.{flat_map}
+use Rattle.std.specs.Option.{option_map_or}
 use Rattle.std.specs.Str.{bytes_eq}
 use Rattle.std.specs.Fmt.{decimal}
 use Rattle.std.specs.FinMap as vars
-use Rattle.text_parts.specs.Digits.{digits_in_front, number}
-use Rattle.text_parts.specs.declared.digits.Base.TheVariants.{Decimal}
+use Rattle.text_parts.specs.Numerals.{behind_0x}
+use Rattle.text_parts.specs.declared.digits.Base.TheVariants.{Decimal, Hexadecimal}
 use Rattle.envimg_core.specs.Environment.{Environment}
+use Rattle.envvars_core.specs.declared.refusals.Refusal.{Refusal}
+use Rattle.envvars_core.specs.declared.refusals.Refusal.TheVariants.{Full}
+use Rattle.env_session.specs.Requests.{refusal_in}
 use Rattle.env_session.specs.Session.{Held}
+use Rattle.hush_calc.specs.Numbers.{front_number, modulus}
 use Rattle.hush_syntax.specs.Grammar.{Chains}
 use Rattle.hush_syntax.specs.Reading.{read_in}
 use Rattle.hush_commands.specs.Hardware.{Hardware}
@@ -38,30 +43,39 @@ power_on_text false = codes "if env exists preboot; then run preboot; else true;
 
 -- ---- the count of boots
 
--- the number that a variable begins with, in decimal digits: 0 without one, and this for a larger one
-abbrev pub largest_number : ℕ
-largest_number = 4294967295
-
+-- the number that a text begins with, as a board of 64 bits reads it: decimal digits, or hexadecimal ones after `0x`
 abbrev pub number_in : List ℕ → ℕ
-number_in text = min (number Decimal (digits_in_front Decimal text)) largest_number
+number_in text = option_map_or (front_number Hexadecimal) (behind_0x text) (front_number Decimal text) % modulus
 
+-- that of a variable, 0 without one
 abbrev pub number_of : Environment → (name : List ℕ) → ℕ
 number_of env name = number_in (unwrap_or (vars.get env name) [])
 
--- whether power-ons are counted
+-- whether power-ons are counted, by 32 bits of that number
 abbrev pub is_counted : Environment → Bool
-is_counted env = nat_lt 0 (number_of env (codes "upgrade_available"))
+is_counted env = nat_lt 0 (number_of env (codes "upgrade_available") % 4294967296)
 
 -- which one this is
 abbrev pub boot_number : Environment → ℕ
-boot_number env = (if is_counted env then number_of env (codes "bootcount") else 0) + 1
+boot_number env = if is_counted env then (number_of env (codes "bootcount") + 1) % modulus else 1
+
+-- the count once that is written: where checks refuse it the old one stays, but a board's memory has room for each
+abbrev pub count_by : Option Refusal → (new old : ℕ) → ℕ
+count_by None new old = new
+count_by (Some Full) new old = new
+count_by (Some refusal) new old = old
+
+abbrev pub count_left : Held → ℕ
+count_left held =
+    let new = boot_number held.now.env in
+    count_by (refusal_in held (codes "bootcount") (Some (decimal new)) false) new (number_of held.now.env (codes "bootcount"))
 
 -- whether that is one too many
 abbrev pub is_beyond : (limit count : ℕ) → Bool
 is_beyond limit count = nat_lt 0 limit && nat_lt limit count
 
-abbrev pub goes_back : Environment → Bool
-goes_back env = is_counted env && is_beyond (number_of env (codes "bootlimit")) (boot_number env)
+abbrev pub goes_back : Held → Bool
+goes_back held = is_counted held.now.env && is_beyond (number_of held.now.env (codes "bootlimit")) (count_left held)
 
 -- what is run then
 abbrev pub command_of : (goes_back : Bool) → List ℕ
@@ -76,17 +90,17 @@ save_of false = []
 abbrev pub start_of : (status : ℕ) → List ℕ
 start_of status = codes "; if test \"${bootdelay}\" != -1; then " ++ (if status == 0 then codes "run " else codes "false || run ")
 
--- what a board with the count runs when its power comes on, by the variables and the status that `preboot` leaves: that, the
+-- what a board with the count runs when its power comes on, by the session and the status that `preboot` leaves: that, the
 -- count as commands, and `bootcmd` or `altbootcmd`
-abbrev pub counted_text : Environment → (status : ℕ) → List ℕ
-counted_text env status =
-    preboot_text ++ codes "; setenv bootcount " ++ decimal (boot_number env) ++ save_of (is_counted env) ++ start_of status
-    ++ command_of (goes_back env)
+abbrev pub counted_text : Held → (status : ℕ) → List ℕ
+counted_text held status =
+    preboot_text ++ codes "; setenv bootcount " ++ decimal (boot_number held.now.env) ++ save_of (is_counted held.now.env)
+    ++ start_of status ++ command_of (goes_back held)
 
 -- the same where memory may have run out in `preboot`
-abbrev pub IsCounted : Option Reason → Environment → (status : ℕ) → List ℕ → Type 0
-IsCounted None env status text = ⊥
-IsCounted (Some reason) env status text = text ≡ counted_text env status
+abbrev pub IsCounted : Option Reason → Held → (status : ℕ) → List ℕ → Type 0
+IsCounted None held status text = ⊥
+IsCounted (Some reason) held status text = text ≡ counted_text held status
 
 -- ---- questions
 
@@ -180,7 +194,7 @@ tree_in shell text = unwrap_or (read_in (bodies_of shell) text) None
 -- with the count, that of the text which `preboot` leads to
 abbrev pub counted_tree : Rules → (preboot : Option Chains) → Held → Option Chains
 counted_tree rules preboot held =
-    let left = (meaning rules preboot held).1 in tree_in rules.shell (counted_text left.held.now.env left.status)
+    let left = (meaning rules preboot held).1 in tree_in rules.shell (counted_text left.held left.status)
 
 abbrev pub tree_by : (counts : Bool) → Rules → Option Chains → Held → Option Chains
 tree_by false rules tree held = tree

@@ -119,11 +119,6 @@ fn counted_script(
         rules.board,
         rules.limits,
     );
-    let text = text_after(
-        alloc,
-        course.outcome.ending,
-        session.vars(),
-        course.outcome.status,
-    )?;
+    let text = text_after(alloc, course.outcome.ending, session, course.outcome.status)?;
     read_text(alloc, rules.shell, text)
 }

@@ -62,3 +62,12 @@ return-none text h =
 pub ok-then : {T E : Type 0} (r : Result T E) (P Q : Type 0) → (P → Q) → OnOk r P → OnOk r Q
 ok-then (Ok x) P Q f p = f p
 ok-then (Err e) P Q f p = tt
+
+-- ---- findings of four kinds, one after the other
+
+pub found-four : (old one two three four : Found) (a b c d : List Finding) → one ≡ found_more old a → two ≡ found_more one b → three ≡ found_more two c → four ≡ found_more three d →
+    four ≡ found_more old (a ++ b ++ c ++ d)
+found-four old one two three four a b c d p q r s =
+    s
+    ∙ ap (λ f. found_more f d) (r ∙ ap (λ f. found_more f c) (q ∙ ap (λ f. found_more f b) p ∙ found-append old a b) ∙ found-append old (a ++ b) c)
+    ∙ found-append old (a ++ b ++ c) d

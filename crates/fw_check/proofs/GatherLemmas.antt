@@ -1,6 +1,6 @@
 -- The parts of a node, by its statements.
-use Rattle.std.proofs.Common.{◌≡◌, ℕ, ◌+◌, ◌<◌, ◌≤◌, List, [], ◌∷◌, ◌++◌, map, Option, Some, None, refl, sym, ap, ◌∙◌, arith, append_assoc, append-nil, subst}
-use Rattle.std.specs.Prelude.{IsSome, OnOk, Result, Ok, Err}
+use Rattle.std.proofs.Common.{◌≡◌, ℕ, Bool, true, false, ◌+◌, ◌<◌, ◌≤◌, List, [], ◌∷◌, ◌++◌, map, Option, Some, None, refl, sym, ap, ◌∙◌, arith, append_assoc, append-nil, subst}
+use Rattle.std.specs.Prelude.{IsSome, OnOk, Result, Ok, Err, is_none}
 use Rattle.std.proofs.lemmas.Grind.{flat_map-append}
 use Rattle.std.proofs.lemmas.List.{map-append}
 use Rattle.hush_words.specs.Words.{Atom}
@@ -8,188 +8,265 @@ use Rattle.hush_words.specs.Parts.{Written}
 use Rattle.hush_syntax.specs.declared.nodes.NodeId.{NodeId}
 use Rattle.hush_syntax.specs.declared.nodes.Link as link
 use Rattle.hush_syntax.specs.declared.nodes.Branch as branch
-use Rattle.hush_syntax.specs.Grammar.{If, For, While, Until, Branches, Elif, Else, Fi, Chain, First, Links, End, Link, Chains, Last, More}
+use Rattle.hush_syntax.specs.declared.nodes.Operator.{Operator}
+use Rattle.hush_syntax.specs.Grammar.{Command, If, For, While, Until, Branches, Elif, Else, Fi, Chain, First, Links, End, Link, Chains, Last, More}
 use Rattle.hush_syntax.specs.Reading.{bind}
 use Rattle.hush_syntax.specs.Nodes.{At, Subtree, OfChains, OfChain, OfCommand, chain_of, AreChains, AreLinks, IsChain, AreBranches}
 use Rattle.fw_check.specs.declared.items.Item.{Item}
-use Rattle.fw_check.specs.Statements.{Statement, Binds, statement_of, of_command, of_branches, of_chain, of_links, of_list}
-use Rattle.fw_check.specs.Gathering.{AreKnown, HasParts, branch_size, chain_size, if_parts, link_size, list_size, of_subtree, size_at, size_of, still_to_come}
+use Rattle.fw_check.specs.declared.items.Part.{Part}
+use Rattle.fw_check.specs.declared.settings.Setting.{Setting}
+use Rattle.fw_check.specs.Settings.{in_chain, in_if, in_list, in_loop, in_turn, plain}
+use Rattle.fw_check.specs.Statements.{Statement, Binds, first_operator, is_bare, is_end, statement_of, of_command, of_branches, of_chain, of_links, of_list}
+use Rattle.fw_check.specs.Gathering.{AreKnown, HasParts, branch_parts, branch_size, chain_size, command_size, if_parts, is_nil, link_parts, link_size, list_parts, list_size, of_subtree, operator_of, otherwise_part, part, size_at, size_of, still_to_come}
 
--- some nodes are these statements, and are smaller together than this
-pub record Are (at : At) (ids : List NodeId) (statements : List Statement) (most : ℕ) : Type 0 where
-  pub known : AreKnown at ids
-  pub same : still_to_come at ids ≡ statements
-  pub size : size_at at ids ≤ most
+-- some parts are these statements, and are smaller together than this
+pub record Are (shows : Bool) (at : At) (parts : List Part) (statements : List Statement) (most : ℕ) : Type 0 where
+  pub known : AreKnown at parts
+  pub same : still_to_come shows at parts ≡ statements
+  pub size : size_at at parts ≤ most
 
-module _ (at : At) where
-  none-are : Are at [] [] 0
+module _ (shows : Bool) (at : At) where
+  none-are : Are shows at [] [] 0
   none-are = record { known = tt; same = refl; size = omega arith }
 
   -- one more before them
-  one-more : (id : NodeId) (ids : List NodeId) (s : Subtree) (more : List Statement) (size : ℕ) → at id ≡ Some s → Are at ids more size →
-      Are at (id ∷ ids) (of_subtree (Some s) ++ more) (size_of (Some s) + size)
-  one-more id ids s more size e rest = record {
+  one-more : (id : NodeId) (st : Setting) (parts : List Part) (s : Subtree) (more : List Statement) (size : ℕ) → at id ≡ Some s → Are shows at parts more size →
+      Are shows at (part id st ∷ parts) (of_subtree shows st (Some s) ++ more) (size_of (Some s) + size)
+  one-more id st parts s more size e rest = record {
     known = (rw e refl, rest.known);
-    same = ap (λ (o : Option Subtree). of_subtree o ++ still_to_come at ids) e ∙ ap (λ (ys : List Statement). of_subtree (Some s) ++ ys) rest.same;
+    same = ap (λ (o : Option Subtree). of_subtree shows st o ++ still_to_come shows at parts) e ∙ ap (λ (ys : List Statement). of_subtree shows st (Some s) ++ ys) rest.same;
     size = omega (arith, ap size_of e, rest.size);
   }
 
   -- a chain, or the one command of it
-  chain-at : (id : NodeId) (o : Option Subtree) (c : Chain) → bind o chain_of ≡ Some c → IsSome o × (of_subtree o ≡ of_chain c) × (size_of o ≤ chain_size c)
-  chain-at id None c e = absurd (cc)
-  chain-at id (Some (OfChains cs)) c e = absurd (cc)
-  chain-at id (Some (OfChain d)) c e =
+  chain-at : (st : Setting) (o : Option Subtree) (c : Chain) → bind o chain_of ≡ Some c → IsSome o × (of_subtree shows st o ≡ of_chain shows st c) × (size_of o ≤ chain_size c)
+  chain-at st None c e = absurd (cc)
+  chain-at st (Some (OfChains cs)) c e = absurd (cc)
+  chain-at st (Some (OfChain d)) c e =
       let same : d ≡ c = cc in
-      (refl, ap of_chain same, omega (arith, ap chain_size same))
-  chain-at id (Some (OfCommand d)) c e =
+      (refl, ap (of_chain shows st) same, omega (arith, ap chain_size same))
+  chain-at st (Some (OfCommand d)) c e =
       let same : First d End ≡ c = cc in
-      (refl, sym (append-nil (of_command d)) ∙ ap of_chain same, omega (arith, ap chain_size same))
+      (refl, sym (append-nil (of_command shows st d)) ∙ ap (of_chain shows st) same, omega (arith, ap chain_size same))
 
-  one-chain : (id : NodeId) (ids : List NodeId) (c : Chain) (more : List Statement) (size : ℕ) → bind (at id) chain_of ≡ Some c → Are at ids more size →
-      Are at (id ∷ ids) (of_chain c ++ more) (chain_size c + size)
-  one-chain id ids c more size e rest =
-      let h = chain-at id (at id) c e in
+  one-chain : (id : NodeId) (st : Setting) (parts : List Part) (c : Chain) (more : List Statement) (size : ℕ) → bind (at id) chain_of ≡ Some c → Are shows at parts more size →
+      Are shows at (part id st ∷ parts) (of_chain shows st c ++ more) (chain_size c + size)
+  one-chain id st parts c more size e rest =
+      let h = chain-at st (at id) c e in
       record {
         known = (h.0, rest.known);
-        same = ap (λ (xs : List Statement). xs ++ still_to_come at ids) h.1 ∙ ap (λ (ys : List Statement). of_chain c ++ ys) rest.same;
+        same = ap (λ (xs : List Statement). xs ++ still_to_come shows at parts) h.1 ∙ ap (λ (ys : List Statement). of_chain shows st c ++ ys) rest.same;
         size = omega (arith, h.2, rest.size);
       }
 
-  pub chains-are : (ids : List NodeId) (cs : Chains) → AreChains at ids cs → (size_at at ids < list_size cs) × AreKnown at ids × (still_to_come at ids ≡ of_list cs)
-  chains-are [] (Last c) h = absurd h
-  chains-are [] (More c cs) h = absurd h
-  chains-are (id ∷ ids) (Last c) h =
-      let none : Are at ids [] 0 = subst (λ (xs : List NodeId). Are at xs [] 0) (sym h.1) none-are in
-      let r = one-chain id ids c [] 0 h.0 none in
-      (omega (arith, r.size), r.known, r.same ∙ append-nil (of_chain c))
-  chains-are (id ∷ ids) (More c cs) h =
-      let rest = chains-are ids cs h.1 in
-      let r = one-chain id ids c (of_list cs) (size_at at ids) h.0 (record { known = rest.1; same = rest.2; size = omega arith }) in
+  pub chains-are : (st : Setting) (first : Bool) (ids : List NodeId) (cs : Chains) → AreChains at ids cs →
+      (size_at at (list_parts shows st first ids) < list_size cs) × AreKnown at (list_parts shows st first ids) × (still_to_come shows at (list_parts shows st first ids) ≡ of_list shows st first cs)
+  chains-are st first [] (Last c) h = absurd h
+  chains-are st first [] (More c cs) h = absurd h
+  chains-are st first (id ∷ []) (Last c) h =
+      let own = in_list shows st first true in
+      let r = one-chain id own [] c [] 0 h.0 none-are in
+      (omega (arith, r.size), r.known, r.same ∙ append-nil (of_chain shows own c))
+  chains-are st first (id ∷ other ∷ ids) (Last c) h = absurd (let no : other ∷ ids ≡ [] = h.1 in cc)
+  chains-are st first (id ∷ []) (More c (Last d)) h = absurd h.1
+  chains-are st first (id ∷ []) (More c (More d cs)) h = absurd h.1
+  chains-are st first (id ∷ other ∷ ids) (More c cs) h =
+      let rest = chains-are st false (other ∷ ids) cs h.1 in
+      let parts = list_parts shows st false (other ∷ ids) in
+      let r = one-chain id (in_list shows st first false) parts c (of_list shows st false cs) (size_at at parts) h.0 (record { known = rest.1; same = rest.2; size = omega arith }) in
       (omega (arith, r.size, rest.0), r.known, r.same)
 
-  commands-are : (ls : List link.Link) (links : Links) → AreLinks at ls links → Are at (map (λ l. l.command) ls) (of_links links) (link_size links)
-  commands-are [] End h = none-are
-  commands-are [] (Link o c links) h = absurd h
-  commands-are (l ∷ ls) End h = absurd h
-  commands-are (l ∷ ls) (Link o c links) h = one-more l.command (map (λ l. l.command) ls) (OfCommand c) (of_links links) (link_size links) h.1 (commands-are ls links h.2)
+  ends : (ls : List link.Link) (links : Links) → AreLinks at ls links → is_nil ls ≡ is_end links
+  ends [] End h = refl
+  ends [] (Link o c links) h = absurd h
+  ends (l ∷ ls) End h = absurd h
+  ends (l ∷ ls) (Link o c links) h = refl
 
-  pub chain-is : (ls : List link.Link) (c : Chain) → IsChain at ls c → (size_at at (map (λ l. l.command) ls) < chain_size c) × AreKnown at (map (λ l. l.command) ls) × (still_to_come at (map (λ l. l.command) ls) ≡ of_chain c)
-  chain-is [] (First c links) h = absurd h
-  chain-is (l ∷ ls) (First c links) h =
-      let r = one-more l.command (map (λ l. l.command) ls) (OfCommand c) (of_links links) (link_size links) h.1 (commands-are ls links h.2) in
-      (omega (arith, r.size), r.known, r.same)
+  operators : (l : link.Link) (ls : List link.Link) (links : Links) → AreLinks at ls links → operator_of (l ∷ ls) ≡ first_operator links
+  operators l [] End h = refl
+  operators l [] (Link o c links) h = absurd h
+  operators l (m ∷ ls) End h = absurd h
+  operators l (m ∷ ls) (Link o c links) h = h.0
 
-  pub branches-are : (bs : List branch.Branch) (o : Option NodeId) (b : Branches) → AreBranches at bs o b → Are at (if_parts bs o) (of_branches b) (branch_size b)
-  branches-are [] None (Elif c d b) h = absurd h
-  branches-are [] None (Else d) h = absurd h
-  branches-are [] None Fi h = none-are
-  branches-are [] (Some id) (Elif c d b) h = absurd h
-  branches-are [] (Some id) (Else d) h =
-      let r = one-more id [] (OfChains d) [] 0 h none-are in
-      record { known = r.known; same = r.same ∙ append-nil (of_list d); size = omega (arith, r.size) }
-  branches-are [] (Some id) Fi h = absurd h
-  branches-are (x ∷ bs) o (Elif c d b) h =
-      let r = one-more x.condition (x.body ∷ if_parts bs o) (OfChains c) (of_list d ++ of_branches b) (list_size d + branch_size b) h.0
-      (one-more x.body (if_parts bs o) (OfChains d) (of_branches b) (branch_size b) h.1 (branches-are bs o b h.2)) in
-      record { known = r.known; same = r.same ∙ sym (append_assoc (of_list c) (of_list d) (of_branches b)); size = r.size }
-  branches-are (x ∷ bs) o (Else d) h = absurd h
-  branches-are (x ∷ bs) o Fi h = absurd h
+  commands-are : (st : Setting) (operator : Option Operator) (ls : List link.Link) (links : Links) → AreLinks at ls links →
+      Are shows at (link_parts st operator false ls) (of_links shows st operator links) (link_size links)
+  commands-are st operator [] End h = none-are
+  commands-are st operator [] (Link o c links) h = absurd h
+  commands-are st operator (l ∷ ls) End h = absurd h
+  commands-are st operator (l ∷ ls) (Link o c links) h =
+      let own = in_chain st operator (Some o) false (is_end links) in
+      let same : own ≡ in_chain st operator l.operator false (is_nil ls) = λ i. in_chain st operator (sym h.0 i) false (sym (ends ls links h.2) i) in
+      let rest = link_parts st operator false ls in
+      let r = one-more l.command own rest (OfCommand c) (of_links shows st operator links) (link_size links) h.1 (commands-are st operator ls links h.2) in
+      subst (λ (s : Setting). Are shows at (part l.command s ∷ rest) (of_links shows st operator (Link o c links)) (link_size (Link o c links))) same r
 
-  pub loop-is : (c d : Chains) (condition body : NodeId) → at condition ≡ Some (OfChains c) → at body ≡ Some (OfChains d) →
-      Are at (condition ∷ body ∷ []) (of_list c ++ of_list d) (list_size c + list_size d)
-  loop-is c d condition body e f =
-      let r = one-more condition (body ∷ []) (OfChains c) (of_list d ++ []) (list_size d + 0) e (one-more body [] (OfChains d) [] 0 f none-are) in
-      record { known = r.known; same = r.same ∙ ap (λ (ys : List Statement). of_list c ++ ys) (append-nil (of_list d)); size = omega (arith, r.size) }
+  chain-with : (st : Setting) (l : link.Link) (ls : List link.Link) (c : Command) (links : Links) → l.operator ≡ None → at l.command ≡ Some (OfCommand c) → AreLinks at ls links →
+      Are shows at (link_parts st (first_operator links) true (l ∷ ls)) (of_chain shows st (First c links)) (command_size c + link_size links)
+  chain-with st l ls c links none e h =
+      let operator = first_operator links in
+      let own = in_chain st operator None true (is_end links) in
+      let same : own ≡ in_chain st operator l.operator true (is_nil ls) = λ i. in_chain st operator (sym none i) true (sym (ends ls links h) i) in
+      let rest = link_parts st operator false ls in
+      let r = one-more l.command own rest (OfCommand c) (of_links shows st operator links) (link_size links) e (commands-are st operator ls links h) in
+      subst (λ (s : Setting). Are shows at (part l.command s ∷ rest) (of_chain shows st (First c links)) (command_size c + link_size links)) same r
 
-  pub body-is : (d : Chains) (body : NodeId) → at body ≡ Some (OfChains d) → Are at (body ∷ []) (of_list d) (list_size d)
-  body-is d body f =
-      let r = one-more body [] (OfChains d) [] 0 f none-are in
-      record { known = r.known; same = r.same ∙ append-nil (of_list d); size = omega (arith, r.size) }
+  pub chain-is : (st : Setting) (ls : List link.Link) (c : Chain) → IsChain at ls c → Are shows at (link_parts st (operator_of ls) true ls) (of_chain shows st c) (size_at at (link_parts st (operator_of ls) true ls))
+      × (size_at at (link_parts st (operator_of ls) true ls) < chain_size c)
+  chain-is st [] (First c links) h = absurd h
+  chain-is st (l ∷ ls) (First c links) h =
+      let r = subst (λ (o : Option Operator). Are shows at (link_parts st o true (l ∷ ls)) (of_chain shows st (First c links)) (command_size c + link_size links)) (sym (operators l ls links h.2))
+      (chain-with st l ls c links h.0 h.1 h.2) in
+      (record { known = r.known; same = r.same; size = omega arith }, omega (arith, r.size))
 
-  -- nodes and then others
-  pub known-append : (xs ys : List NodeId) → AreKnown at xs → AreKnown at ys → AreKnown at (xs ++ ys)
+  otherwise-are : (st : Setting) (id : NodeId) (d : Chains) → at id ≡ Some (OfChains d) → Are shows at (otherwise_part st (Some id)) (of_list shows (plain st.asked) true d) (list_size d)
+  otherwise-are st id d e =
+      let r = one-more id (plain st.asked) [] (OfChains d) [] 0 e none-are in
+      record { known = r.known; same = r.same ∙ append-nil (of_list shows (plain st.asked) true d); size = omega (arith, r.size) }
+
+  -- a branch before others; `first`: that of `if`
+  one-branch : (st : Setting) (bare first : Bool) (x : branch.Branch) (parts : List Part) (c d : Chains) (more : List Statement) (size : ℕ) → at x.condition ≡ Some (OfChains c) → at x.body ≡ Some (OfChains d) →
+      Are shows at parts more size →
+      Are shows at (part x.condition (in_if st bare first) ∷ part x.body (plain st.asked) ∷ parts) (of_list shows (in_if st bare first) true c ++ of_list shows (plain st.asked) true d ++ more) (list_size c + (list_size d + size))
+  one-branch st bare first x parts c d more size e f rest =
+      let r = one-more x.condition (in_if st bare first) (part x.body (plain st.asked) ∷ parts) (OfChains c) (of_list shows (plain st.asked) true d ++ more) (list_size d + size) e
+      (one-more x.body (plain st.asked) parts (OfChains d) more size f rest) in
+      record { known = r.known; same = r.same ∙ sym (append_assoc (of_list shows (in_if st bare first) true c) (of_list shows (plain st.asked) true d) more); size = r.size }
+
+  branches-are : (st : Setting) (bare : Bool) (bs : List branch.Branch) (o : Option NodeId) (b : Branches) → AreBranches at bs o b →
+      Are shows at (branch_parts st bare false bs ++ otherwise_part st o) (of_branches shows st bare b) (branch_size b)
+  branches-are st bare [] None (Elif c d b) h = absurd h
+  branches-are st bare [] None (Else d) h = absurd h
+  branches-are st bare [] None Fi h = none-are
+  branches-are st bare [] (Some id) (Elif c d b) h = absurd h
+  branches-are st bare [] (Some id) (Else d) h = otherwise-are st id d h
+  branches-are st bare [] (Some id) Fi h = absurd h
+  branches-are st bare (x ∷ bs) o (Elif c d b) h =
+      one-branch st bare false x (branch_parts st bare false bs ++ otherwise_part st o) c d (of_branches shows st bare b) (branch_size b) h.0 h.1 (branches-are st bare bs o b h.2)
+  branches-are st bare (x ∷ bs) o (Else d) h = absurd h
+  branches-are st bare (x ∷ bs) o Fi h = absurd h
+
+  bare-is : (bs : List branch.Branch) (o : Option NodeId) (b : Branches) → AreBranches at bs o b → is_none o ≡ is_bare b
+  bare-is [] None (Elif c d b) h = absurd h
+  bare-is [] None (Else d) h = absurd h
+  bare-is [] None Fi h = refl
+  bare-is [] (Some id) (Elif c d b) h = absurd h
+  bare-is [] (Some id) (Else d) h = refl
+  bare-is [] (Some id) Fi h = absurd h
+  bare-is (x ∷ bs) o (Elif c d b) h = bare-is bs o b h.2
+  bare-is (x ∷ bs) o (Else d) h = absurd h
+  bare-is (x ∷ bs) o Fi h = absurd h
+
+  pub if-is : (st : Setting) (bs : List branch.Branch) (o : Option NodeId) (c d : Chains) (b : Branches) → AreBranches at bs o (Elif c d b) →
+      Are shows at (if_parts st true bs o) (of_command shows st (If c d b)) (branch_size (Elif c d b))
+  if-is st [] None c d b h = absurd h
+  if-is st [] (Some id) c d b h = absurd h
+  if-is st (x ∷ bs) o c d b h =
+      let with_bare = λ (bare : Bool). Are shows at (branch_parts st bare true (x ∷ bs) ++ otherwise_part st o) (of_command shows st (If c d b)) (branch_size (Elif c d b)) in
+      let bare = is_bare b in
+      subst with_bare (sym (bare-is (x ∷ bs) o (Elif c d b) h))
+      (one-branch st bare true x (branch_parts st bare false bs ++ otherwise_part st o) c d (of_branches shows st bare b) (branch_size b) h.0 h.1 (branches-are st bare bs o b h.2))
+
+  pub loop-is : (st : Setting) (c d : Chains) (condition body : NodeId) → at condition ≡ Some (OfChains c) → at body ≡ Some (OfChains d) →
+      Are shows at (part condition (in_loop st) ∷ part body (plain shows) ∷ []) (of_list shows (in_loop st) true c ++ of_list shows (plain shows) true d) (list_size c + list_size d)
+  loop-is st c d condition body e f =
+      let r = one-more condition (in_loop st) (part body (plain shows) ∷ []) (OfChains c) (of_list shows (plain shows) true d ++ []) (list_size d + 0) e (one-more body (plain shows) [] (OfChains d) [] 0 f none-are) in
+      record { known = r.known; same = r.same ∙ ap (λ (ys : List Statement). of_list shows (in_loop st) true c ++ ys) (append-nil (of_list shows (plain shows) true d)); size = omega (arith, r.size) }
+
+  pub body-is : (st : Setting) (d : Chains) (body : NodeId) → at body ≡ Some (OfChains d) → Are shows at (part body st ∷ []) (of_list shows st true d) (list_size d)
+  body-is st d body f =
+      let r = one-more body st [] (OfChains d) [] 0 f none-are in
+      record { known = r.known; same = r.same ∙ append-nil (of_list shows st true d); size = omega (arith, r.size) }
+
+  -- parts and then others
+  pub known-append : (xs ys : List Part) → AreKnown at xs → AreKnown at ys → AreKnown at (xs ++ ys)
   known-append [] ys h k = k
   known-append (x ∷ xs) ys h k = (h.0, known-append xs ys h.1 k)
 
-  pub size-append : (xs ys : List NodeId) → size_at at (xs ++ ys) ≡ size_at at xs + size_at at ys
+  pub size-append : (xs ys : List Part) → size_at at (xs ++ ys) ≡ size_at at xs + size_at at ys
   size-append [] ys = omega arith
   size-append (x ∷ xs) ys = omega (arith, size-append xs ys)
 
-  -- the nodes that a node leaves to gather, by the statements of its parts
-  pub none-first : (text : Written) (id : NodeId) (ids : List NodeId) (s : Subtree) (most : ℕ) → at id ≡ Some s → Are at ids (of_subtree (Some s)) most → most < size_of (Some s) → HasParts text at id [] ids
-  none-first text id ids s most e are less = record {
+  -- the parts that a part leaves to gather, by the statements of its own parts
+  pub none-first : (text : Written) (p : Part) (parts : List Part) (s : Subtree) (most : ℕ) → at p.id ≡ Some s → Are shows at parts (of_subtree shows p.setting (Some s)) most → most < size_of (Some s) →
+      HasParts text shows at p [] parts
+  none-first text p parts s most e are less = record {
     known = are.known;
-    same = ap of_subtree e ∙ sym are.same;
+    same = ap (of_subtree shows p.setting) e ∙ sym are.same;
     smaller = omega (arith, are.size, less, ap size_of e);
   }
 
-  pub list-parts : (text : Written) (id : NodeId) (ids : List NodeId) (cs : Chains) → at id ≡ Some (OfChains cs) → AreChains at ids cs → HasParts text at id [] ids
-  list-parts text id ids cs e h =
-      let r = chains-are ids cs h in
-      none-first text id ids (OfChains cs) (size_at at ids) e (record { known = r.1; same = r.2; size = omega arith }) r.0
+  pub list-parts : (text : Written) (p : Part) (ids : List NodeId) (cs : Chains) → at p.id ≡ Some (OfChains cs) → AreChains at ids cs → HasParts text shows at p [] (list_parts shows p.setting true ids)
+  list-parts text p ids cs e h =
+      let r = chains-are p.setting true ids cs h in
+      let parts = list_parts shows p.setting true ids in
+      none-first text p parts (OfChains cs) (size_at at parts) e (record { known = r.1; same = r.2; size = omega arith }) r.0
 
-  pub chain-parts : (text : Written) (id : NodeId) (ls : List link.Link) (c : Chain) → at id ≡ Some (OfChain c) → IsChain at ls c → HasParts text at id [] (map (λ l. l.command) ls)
-  chain-parts text id ls c e h =
-      let r = chain-is ls c h in
-      none-first text id (map (λ l. l.command) ls) (OfChain c) (size_at at (map (λ l. l.command) ls)) e (record { known = r.1; same = r.2; size = omega arith }) r.0
+  pub chain-parts : (text : Written) (p : Part) (ls : List link.Link) (c : Chain) → at p.id ≡ Some (OfChain c) → IsChain at ls c → HasParts text shows at p [] (link_parts p.setting (operator_of ls) true ls)
+  chain-parts text p ls c e h =
+      let r = chain-is p.setting ls c h in
+      let parts = link_parts p.setting (operator_of ls) true ls in
+      none-first text p parts (OfChain c) (size_at at parts) e r.0 r.1
 
-  pub branches-parts : (text : Written) (id : NodeId) (bs : List branch.Branch) (o : Option NodeId) (c d : Chains) (b : Branches) → at id ≡ Some (OfCommand (If c d b)) → AreBranches at bs o (Elif c d b) → HasParts text at id [] (if_parts bs o)
-  branches-parts text id bs o c d b e h =
-      none-first text id (if_parts bs o) (OfCommand (If c d b)) (branch_size (Elif c d b)) e (branches-are bs o (Elif c d b) h) (omega arith)
+  pub branches-parts : (text : Written) (p : Part) (bs : List branch.Branch) (o : Option NodeId) (c d : Chains) (b : Branches) → at p.id ≡ Some (OfCommand (If c d b)) → AreBranches at bs o (Elif c d b) →
+      HasParts text shows at p [] (if_parts p.setting true bs o)
+  branches-parts text p bs o c d b e h =
+      none-first text p (if_parts p.setting true bs o) (OfCommand (If c d b)) (branch_size (Elif c d b)) e (if-is p.setting bs o c d b h) (omega arith)
 
-  pub while-parts : (text : Written) (id condition body : NodeId) (c d : Chains) → at id ≡ Some (OfCommand (While c d)) → at condition ≡ Some (OfChains c) → at body ≡ Some (OfChains d) → HasParts text at id [] (condition ∷ body ∷ [])
-  while-parts text id condition body c d e f g =
-      none-first text id (condition ∷ body ∷ []) (OfCommand (While c d)) (list_size c + list_size d) e (loop-is c d condition body f g) (omega arith)
+  pub while-parts : (text : Written) (p : Part) (condition body : NodeId) (c d : Chains) → at p.id ≡ Some (OfCommand (While c d)) → at condition ≡ Some (OfChains c) → at body ≡ Some (OfChains d) →
+      HasParts text shows at p [] (part condition (in_loop p.setting) ∷ part body (plain shows) ∷ [])
+  while-parts text p condition body c d e f g =
+      none-first text p (part condition (in_loop p.setting) ∷ part body (plain shows) ∷ []) (OfCommand (While c d)) (list_size c + list_size d) e (loop-is p.setting c d condition body f g) (omega arith)
 
-  pub until-parts : (text : Written) (id condition body : NodeId) (c d : Chains) → at id ≡ Some (OfCommand (Until c d)) → at condition ≡ Some (OfChains c) → at body ≡ Some (OfChains d) → HasParts text at id [] (condition ∷ body ∷ [])
-  until-parts text id condition body c d e f g =
-      none-first text id (condition ∷ body ∷ []) (OfCommand (Until c d)) (list_size c + list_size d) e (loop-is c d condition body f g) (omega arith)
+  pub until-parts : (text : Written) (p : Part) (condition body : NodeId) (c d : Chains) → at p.id ≡ Some (OfCommand (Until c d)) → at condition ≡ Some (OfChains c) → at body ≡ Some (OfChains d) →
+      HasParts text shows at p [] (part condition (in_loop p.setting) ∷ part body (plain shows) ∷ [])
+  until-parts text p condition body c d e f g =
+      none-first text p (part condition (in_loop p.setting) ∷ part body (plain shows) ∷ []) (OfCommand (Until c d)) (list_size c + list_size d) e (loop-is p.setting c d condition body f g) (omega arith)
 
-  pub for-parts : (text : Written) (id body : NodeId) (it : Item) (name : List ℕ) (words : List (List Atom)) (d : Chains) → at id ≡ Some (OfCommand (For name words d)) → at body ≡ Some (OfChains d) →
-      statement_of text it ≡ Binds name words → HasParts text at id (it ∷ []) (body ∷ [])
-  for-parts text id body it name words d e f is =
-      let r = body-is d body f in
+  pub for-parts : (text : Written) (p : Part) (body : NodeId) (it : Item) (name : List ℕ) (words : List (List Atom)) (d : Chains) → at p.id ≡ Some (OfCommand (For name words d)) → at body ≡ Some (OfChains d) →
+      statement_of text it ≡ Binds p.setting name words → HasParts text shows at p (it ∷ []) (part body (in_turn shows p.setting) ∷ [])
+  for-parts text p body it name words d e f is =
+      let r = body-is (in_turn shows p.setting) d body f in
       record {
         known = r.known;
-        same = ap of_subtree e ∙ (λ i. sym is i ∷ sym r.same i);
+        same = ap (of_subtree shows p.setting) e ∙ (λ i. sym is i ∷ sym r.same i);
         smaller = omega (arith, r.size, ap size_of e);
       }
 
--- what was gathered of a node
-abbrev pub Gathers : Written → At → NodeId → List NodeId → List Item → List NodeId → List Item → Type 0
-Gathers text at id waiting items new new_items =
-    (more : List Item) × (ids : List NodeId) × (new ≡ ids ++ waiting) × (new_items ≡ items ++ more) × HasParts text at id more ids
+-- what was gathered of a part
+abbrev pub Gathers : Written → (shows : Bool) → At → Part → List Part → List Item → List Part → List Item → Type 0
+Gathers text shows at p waiting items new new_items =
+    (more : List Item) × (parts : List Part) × (new ≡ parts ++ waiting) × (new_items ≡ items ++ more) × HasParts text shows at p more parts
 
-pub gather-nodes : {E : Type 0} (r : Result (Unit {0}) E) (text : Written) (at : At) (id : NodeId) (ids waiting new : List NodeId) (items : List Item) → HasParts text at id [] ids →
-    OnOk r (new ≡ ids ++ waiting) → OnOk r (Gathers text at id waiting items new items)
-gather-nodes (Ok u) text at id ids waiting new items parts put = ([], ids, put, sym (append-nil items), parts)
-gather-nodes (Err e) text at id ids waiting new items parts put = put
+pub gather-nodes : {E : Type 0} (r : Result (Unit {0}) E) (text : Written) (shows : Bool) (at : At) (p : Part) (parts waiting new : List Part) (items : List Item) → HasParts text shows at p [] parts →
+    OnOk r (new ≡ parts ++ waiting) → OnOk r (Gathers text shows at p waiting items new items)
+gather-nodes (Ok u) text shows at p parts waiting new items has put = ([], parts, put, sym (append-nil items), has)
+gather-nodes (Err e) text shows at p parts waiting new items has put = put
 
-pub gather-one : {E : Type 0} (r : Result (Unit {0}) E) (text : Written) (at : At) (id : NodeId) (it : Item) (ids waiting new : List NodeId) (items new_items : List Item) → HasParts text at id (it ∷ []) ids →
-    new ≡ ids ++ waiting → OnOk r (new_items ≡ items ++ it ∷ []) → OnOk r (Gathers text at id waiting items new new_items)
-gather-one (Ok u) text at id it ids waiting new items new_items parts put added = (it ∷ [], ids, put, added, parts)
-gather-one (Err e) text at id it ids waiting new items new_items parts put added = added
+pub gather-one : {E : Type 0} (r : Result (Unit {0}) E) (text : Written) (shows : Bool) (at : At) (p : Part) (it : Item) (parts waiting new : List Part) (items new_items : List Item) → HasParts text shows at p (it ∷ []) parts →
+    new ≡ parts ++ waiting → OnOk r (new_items ≡ items ++ it ∷ []) → OnOk r (Gathers text shows at p waiting items new new_items)
+gather-one (Ok u) text shows at p it parts waiting new items new_items has put added = (it ∷ [], parts, put, added, has)
+gather-one (Err e) text shows at p it parts waiting new items new_items has put added = added
 
 -- ---- the loop
 
--- each node that is still to come is known, and these are what is missing of a script's statements
-pub record StillGathers (text : Written) (at : At) (all : List Statement) (items : List Item) (waiting : List NodeId) : Type 0 where
+-- each part that is still to come is known, and these are what is missing of a script's statements
+pub record StillGathers (text : Written) (shows : Bool) (at : At) (all : List Statement) (items : List Item) (waiting : List Part) : Type 0 where
   pub known : AreKnown at waiting
-  pub same : map (statement_of text) items ++ still_to_come at waiting ≡ all
+  pub same : map (statement_of text) items ++ still_to_come shows at waiting ≡ all
 
-pub gather-next : (text : Written) (at : At) (all : List Statement) (items new_items : List Item) (id : NodeId) (rest new : List NodeId) → StillGathers text at all items (id ∷ rest) →
-    Gathers text at id rest items new new_items → StillGathers text at all new_items new
-gather-next text at all items new_items id rest new so_far g =
+pub gather-next : (text : Written) (shows : Bool) (at : At) (all : List Statement) (items new_items : List Item) (p : Part) (rest new : List Part) → StillGathers text shows at all items (p ∷ rest) →
+    Gathers text shows at p rest items new new_items → StillGathers text shows at all new_items new
+gather-next text shows at all items new_items p rest new so_far g =
     let st : Item → Statement = statement_of text in
     record {
-      known = subst (AreKnown at) (sym g.2) (known-append at g.1 rest g.4.known so_far.known.1);
+      known = subst (AreKnown at) (sym g.2) (known-append shows at g.1 rest g.4.known so_far.known.1);
       same =
-          (λ i. map st (g.3 i) ++ still_to_come at (g.2 i))
-          ∙ (λ i. map-append st items g.0 i ++ flat_map-append (λ n. of_subtree (at n)) g.1 rest i)
-          ∙ append_assoc (map st items) (map st g.0) (still_to_come at g.1 ++ still_to_come at rest)
-          ∙ ap (λ (ys : List Statement). map st items ++ ys) (sym (append_assoc (map st g.0) (still_to_come at g.1) (still_to_come at rest)) ∙ ap (λ (ys : List Statement). ys ++ still_to_come at rest) (sym g.4.same))
+          (λ i. map st (g.3 i) ++ still_to_come shows at (g.2 i))
+          ∙ (λ i. map-append st items g.0 i ++ flat_map-append (λ (q : Part). of_subtree shows q.setting (at q.id)) g.1 rest i)
+          ∙ append_assoc (map st items) (map st g.0) (still_to_come shows at g.1 ++ still_to_come shows at rest)
+          ∙ ap (λ (ys : List Statement). map st items ++ ys) (sym (append_assoc (map st g.0) (still_to_come shows at g.1) (still_to_come shows at rest)) ∙ ap (λ (ys : List Statement). ys ++ still_to_come shows at rest) (sym g.4.same))
           ∙ so_far.same;
     }
 
-pub gather-smaller : (text : Written) (at : At) (items new_items : List Item) (id : NodeId) (rest new : List NodeId) → Gathers text at id rest items new new_items → size_at at new < size_at at (id ∷ rest)
-gather-smaller text at items new_items id rest new g = omega (arith, g.4.smaller, ap (size_at at) g.2, size-append at g.1 rest)
+pub gather-smaller : (text : Written) (shows : Bool) (at : At) (items new_items : List Item) (p : Part) (rest new : List Part) → Gathers text shows at p rest items new new_items → size_at at new < size_at at (p ∷ rest)
+gather-smaller text shows at items new_items p rest new g = omega (arith, g.4.smaller, ap (size_at at) g.2, size-append shows at g.1 rest)

@@ -2,6 +2,7 @@ mod GatherLemmas
 mod FoundLemmas
 mod SummaryLemmas
 mod LiteralLemmas
+mod StatusLemmas
 mod ForeignLemmas
 mod ConstantLemmas
 mod NameLemmas
@@ -11,3 +12,4 @@ mod TypeLemmas
 mod VisitLemmas
 pub mod Rows
 mod LineLemmas
+mod AskLemmas

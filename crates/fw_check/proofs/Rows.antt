@@ -6,7 +6,8 @@ use Rattle.std.specs.FinMap.{empty, entries, get, get-empty}
 use Rattle.envimg_core.specs.Environment.{bytes_cmp}
 use Rattle.hush_words.specs.Words.{Atom}
 use Rattle.hush_words.specs.Words.Atom.{Plain, Quoted, Mark, Value, Status}
-use Rattle.hush_syntax.specs.Grammar.{Command, Simple, Assign, For, Chains, First, End, Last, More}
+use Rattle.hush_syntax.specs.Grammar.{Command, Simple, Assign, For, If, While, Fi, Chains, First, Link, End, Last, More}
+use Rattle.hush_syntax.specs.declared.nodes.Operator.TheVariants.{And, Or}
 use Rattle.hush_commands.specs.Builtins.{builtin_of}
 use Rattle.hush_commands.specs.declared.shell.Shell.TheVariants.{Strict, Board}
 use Rattle.hush_commands.specs.CommandNames.{with_name}
@@ -22,8 +23,10 @@ use Rattle.fw_check.specs.Knowing.{Known, set_by_commands}
 use Rattle.fw_check.specs.Literals.{Front, front_of, is_word_of, literal_of, substituted}
 use Rattle.fw_check.specs.Misuse.{has_odd, is_calculated_wrong, is_set_wrong}
 use Rattle.fw_check.specs.Operators.{ATerm, after_word, is_broken}
-use Rattle.fw_check.specs.Naming.{foreseen_as, foreseen_names, given_names, run_fronts}
-use Rattle.fw_check.specs.Statements.{of_script}
+use Rattle.fw_check.specs.Naming.{asked_fronts, foreseen_as, foreseen_names, given_names, run_fronts}
+use Rattle.fw_check.specs.Settings.{shows_status}
+use Rattle.fw_check.specs.Statements.{Statement, Assigns, Binds, Calls, of_script}
+use Rattle.fw_check.specs.declared.settings.Setting.{Setting}
 
 abbrev word : List ℕ → List Atom
 word text = map Plain text
@@ -53,7 +56,7 @@ script =
     (more (Simple (value (codes "e") ∷ value (codes "f") ∷ []))
     (alone (Simple (word (codes "run") ∷ word (codes "c") ∷ value (codes "d") ∷ [])))))
 
-given_row : flat_map (given_names strict) (of_script (Some script))
+given_row : flat_map (given_names strict) (of_script false false (Some script))
     ≡ codes "i" ∷ codes "-n" ∷ codes "a" ∷ codes "uuid" ∷ codes "mmc" ∷ codes "y" ∷ codes "x" ∷ codes "c" ∷ []
 given_row = refl
 
@@ -63,7 +66,7 @@ whole text = record { bytes = text; whole = true }
 abbrev begun : List ℕ → Front
 begun text = record { bytes = text; whole = false }
 
-run_row : flat_map (run_fronts strict) (of_script (Some script)) ≡ whole (codes "c") ∷ begun [] ∷ []
+run_row : flat_map (run_fronts strict) (of_script false false (Some script)) ≡ whole (codes "c") ∷ begun [] ∷ []
 run_row = refl
 
 -- `${a}x$?"$b"$a`
@@ -106,7 +109,7 @@ setting =
     (more (call (codes "env") (word (codes "exists") ∷ word (codes "k") ∷ []))
     (alone (call (codes "setexpr.x") (word (codes "j") ∷ [])))))))))))
 
-foreseen_row : flat_map (foreseen_names strict) (of_script (Some setting)) ≡ codes "a" ∷ codes "b" ∷ codes "c" ∷ codes "d" ∷ codes "e" ∷ codes "k" ∷ []
+foreseen_row : flat_map (foreseen_names strict) (of_script false false (Some setting)) ≡ codes "a" ∷ codes "b" ∷ codes "c" ∷ codes "d" ∷ codes "e" ∷ codes "k" ∷ []
 foreseen_row = refl
 
 -- a board takes a beginning that only one command has, and what is before a dot
@@ -123,7 +126,7 @@ env_row : map (foreseen_as Board (Some (codes "env"))) ((word (codes "se") ∷ w
 env_row = refl
 
 -- neither a `for` nor an assignment, nor an argument of another command
-foreseen_first_row : flat_map (foreseen_names strict) (of_script (Some script)) ≡ codes "a" ∷ []
+foreseen_first_row : flat_map (foreseen_names strict) (of_script false false (Some script)) ≡ codes "a" ∷ []
 foreseen_first_row = refl
 
 -- an empty environment, in which a script gives `a` to something, and foresees `c`
@@ -228,3 +231,49 @@ broken_row : map is_broken
     ∷ after_word Board (after_word Board (after_word Board ATerm 0 (Some (codes "-e"))) 0 (Some (codes "a"))) 0 (Some (codes "b")) ∷ [])
     ≡ false ∷ true ∷ []
 broken_row = refl
+
+-- ---- statuses that are asked for
+
+abbrev setting_of : Statement → Setting
+setting_of (Calls s words) = s
+setting_of (Assigns s name value) = s
+setting_of (Binds s name words) = s
+
+-- `a && b || c`
+abbrev mixing : Chains
+mixing = Last (First (call (codes "a") []) (Link And (call (codes "b") []) (Link Or (call (codes "c") []) End)))
+
+mixes_row : map (λ s. (setting_of s).mixes) (of_script false false (Some mixing)) ≡ false ∷ false ∷ true ∷ []
+mixes_row = refl
+
+asked_row : map (λ s. (setting_of s).asked) (of_script false false (Some mixing)) ≡ true ∷ true ∷ false ∷ []
+asked_row = refl
+
+-- `if while a; do b; done; then c; fi`, whose status is asked for or isn't
+abbrev branching : Chains
+branching = alone (If (alone (While (alone (call (codes "a") [])) (alone (call (codes "b") [])))) (alone (call (codes "c") [])) Fi)
+
+branches_row : map (λ s. (setting_of s).branchless) (of_script false true (Some branching)) ≡ true ∷ false ∷ false ∷ []
+branches_row = refl
+
+no_branches_row : map (λ s. (setting_of s).branchless) (of_script false false (Some branching)) ≡ false ∷ false ∷ false ∷ []
+no_branches_row = refl
+
+loops_row : map (λ s. (setting_of s).loops) (of_script false false (Some branching)) ≡ true ∷ false ∷ false ∷ []
+loops_row = refl
+
+-- `run a b; run c d`
+abbrev running : Chains
+running = more (Simple (word (codes "run") ∷ word (codes "a") ∷ word (codes "b") ∷ [])) (alone (Simple (word (codes "run") ∷ word (codes "c") ∷ word (codes "d") ∷ [])))
+
+asked_for_row : flat_map (asked_fronts strict) (of_script false true (Some running)) ≡ whole (codes "a") ∷ whole (codes "c") ∷ whole (codes "d") ∷ []
+asked_for_row = refl
+
+not_asked_for_row : flat_map (asked_fronts strict) (of_script true false (Some running)) ≡ whole (codes "a") ∷ whole (codes "b") ∷ whole (codes "c") ∷ []
+not_asked_for_row = refl
+
+shows_row : shows_status (codes "echo a$?") ≡ true
+shows_row = refl
+
+shows_none_row : shows_status (codes "echo $a?") ≡ false
+shows_none_row = refl

@@ -1,8 +1,8 @@
 -- A script's reading, and the visits of all.
-use Rattle.std.proofs.Common.{◌≡◌, ℕ, zero, suc, ◌+◌, Bool, List, [], ◌∷◌, ◌++◌, take, Vec, Option, Some, None, refl, sym, ap, ◌∙◌, arith, subst, append_assoc, append-nil}
+use Rattle.std.proofs.Common.{◌≡◌, ℕ, zero, suc, ◌+◌, Bool, true, false, List, [], ◌∷◌, ◌++◌, take, Vec, Option, Some, None, refl, sym, ap, ◌∙◌, arith, subst, append_assoc, append-nil}
 use Rattle.std.specs.Prelude.{◌≢◌, slice_get, option_map, OnOk, Result, Ok, Err}
 use Rattle.std.specs.declared.alloc.Global.{Global}
-use Rattle.std.specs.List.{fold}
+use Rattle.std.specs.List.{flat_map, fold}
 use Rattle.std.proofs.lemmas.Grind.{flat_map-append}
 use Rattle.envimg_core.specs.Environment.{Environment}
 use Rattle.hush_syntax.specs.FaultPlaces.{IsFaultOf}
@@ -11,13 +11,14 @@ use Rattle.hush_syntax.specs.declared.syntax_fault.FaultKind.TheVariants.{Memory
 use Rattle.hush_syntax.specs.declared.syntax_fault.SyntaxFault.{SyntaxFault}
 use Rattle.hush_run.specs.Meaning.{bodies_of}
 use Rattle.finding_kinds.specs.declared.kinds.FindingKind.TheVariants as kind
-use Rattle.fw_check.specs.Checking.{AreVisited, Faulty, Reports, Script, Visit, after_visit, in_all, known_after, reading_findings, script_in}
+use Rattle.fw_check.specs.Checking.{AreFollowed, AreVisited, Faulty, Reports, Script, Visit, after_visit, follow_texts, in_all, known_after, reading_findings, script_in}
 use Rattle.fw_check.specs.Called.{Given, in_answers}
 use Rattle.fw_check.specs.Findings.{Report, fault_sentence, found_at, return_findings, with_findings, with_script}
 use Rattle.fw_check.specs.Knowing.{Known}
 use Rattle.fw_check.specs.Following.{Followed, begin_from, follow_fronts}
 use Rattle.fw_check.specs.Found.{Found, found_more}
 use Rattle.fw_check.specs.Lines.{Subject, Variable}
+use Rattle.fw_check.specs.Literals.{Front}
 use Rattle.fw_check.specs.NameSets.{no_names, with_all}
 use Rattle.fw_check.specs.Naming.{foreseen_in, given_in, run_in}
 use Rattle.fw_check.specs.Reports.{GoesOn, Reads, ReadsItems}
@@ -25,21 +26,21 @@ use Rattle.fw_check.proofs.FoundLemmas.{found-append}
 use Rattle.fw_check.proofs.FollowLemmas.{fronts-env, fronts-longer}
 use Rattle.fw_check.proofs.NameLemmas.{all-among, with-append}
 
-module _ (known : Option Known) (given : Given) where
+module _ (known : Option Known) (given : Given) (asked : Bool) where
   -- a script, and a text that isn't one
-  pub read-script : {E : Type 0} (r : Result (Unit {0}) E) (source text : List ℕ) (old new : Found) → source ≡ text → OnOk r (ReadsItems known given source old new) → OnOk r (Reads known given text old new)
-  read-script (Ok u) source text old new same h = subst (λ t. Reads known given t old new) same (Script h.0, h.1, h.2)
+  pub read-script : {E : Type 0} (r : Result (Unit {0}) E) (source text : List ℕ) (old new : Found) → source ≡ text → OnOk r (ReadsItems known given asked source old new) → OnOk r (Reads known given asked text old new)
+  read-script (Ok u) source text old new same h = subst (λ t. Reads known given asked t old new) same (Script h.0, h.1, h.2)
   read-script (Err e) source text old new same h = tt
 
   pub read-fault : {E : Type 0} (r : Result (Unit {0}) E) (source text : List ℕ) (fault : SyntaxFault) (old new : Found) → source ≡ text → (fault.kind ≢ Memory → read_in (bodies_of given.shell) source ≡ None) →
       (fault.kind ≢ Memory → IsFaultOf source fault) →
-      OnOk r ((fault.kind ≢ Memory) × (new ≡ found_more old (found_at fault.place kind.Syntax (fault_sentence fault.kind) ∷ []))) → OnOk r (Reads known given text old new)
+      OnOk r ((fault.kind ≢ Memory) × (new ≡ found_more old (found_at fault.place kind.Syntax (fault_sentence fault.kind) ∷ []))) → OnOk r (Reads known given asked text old new)
   read-fault (Ok u) source text fault old new same unread first h =
       (Faulty fault, (h.0, ap (read_in (bodies_of given.shell)) (sym same) ∙ unread h.0, subst (λ t. IsFaultOf t fault) same (first h.0)), h.1)
   read-fault (Err e) source text fault old new same unread first h = tt
 
   pub script-checked : (subject : Subject) (text : List ℕ) (report counted after : Report) (first second third : Found) → counted ≡ with_script report → first ≡ record { subject = subject; text = text; report = counted } →
-      second ≡ found_more first (return_findings first.text) → Reads known given text second third → after ≡ third.report → GoesOn known given subject text report after
+      second ≡ found_more first (return_findings first.text) → Reads known given asked text second third → after ≡ third.report → GoesOn known given subject asked text report after
   script-checked subject text report counted after first second third one begun returned h done =
       let ys = reading_findings known given text h.0 in
       let two = h.2 ∙ ap (λ (f : Found). found_more f ys) returned ∙ found-append first (return_findings first.text) ys
@@ -47,9 +48,10 @@ module _ (known : Option Known) (given : Given) where
       let ends = λ (r : Report). with_findings subject text r (return_findings text ++ ys) in
       (h.0, h.1, done ∙ ap (λ (f : Found). f.report) two ∙ ap ends one)
 
-  -- a visit, and then the others
-  pub report-first : (env : Environment) (name : List ℕ) (names : List (List ℕ)) (report after final : Report) → GoesOn known given (Variable name) (script_in env name) report after →
-      Reports env known given names after final → Reports env known given (name ∷ names) report final
+-- a visit, and then the others
+module _ (known : Option Known) (given : Given) (asked : List ℕ → Bool) where
+  pub report-first : (env : Environment) (name : List ℕ) (names : List (List ℕ)) (report after final : Report) → GoesOn known given (Variable name) (asked name) (script_in env name) report after →
+      Reports env known given asked names after final → Reports env known given asked (name ∷ names) report final
   report-first env name names report after final h rest =
       let v : Visit = record { name = name; reading = h.0 } in
       (v ∷ rest.0, ap (λ (ns : List (List ℕ)). name ∷ ns) rest.1, (h.1, rest.2), ap (λ (r : Report). fold (after_visit env known given) r rest.0) (sym h.2) ∙ rest.3)
@@ -132,26 +134,67 @@ module _ (rules : Given) (env : Environment) (first now : Followed) (index : ℕ
   pub foreseen-all : (gave foresaw given foreseen : List ℕ → Bool) → Follows rules env first now index gave foresaw given foreseen → IsSet env (foreseen_in rules) foresaw now.names foreseen
   foreseen-all gave foresaw given foreseen f = set-all (foreseen_in rules) foresaw foreseen f.foresees
 
-pub begin-env : (f : Followed) (names : List (List ℕ)) → (begin_from f names).env ≡ f.env
-begin-env f [] = refl
-begin-env f (name ∷ names) = refl
+pub begin-env : (f : Followed) (alone : Bool) (names : List (List ℕ)) → (begin_from f alone names).env ≡ f.env
+begin-env f true [] = refl
+begin-env f false [] = refl
+begin-env f alone (name ∷ names) = refl
 
--- ---- with the names that the board's own code sets, and those in the texts that answer calls
+-- ---- with the names that the board's own code sets, and those in the texts that answer calls and in those of files
 
-module _ (rules : Given) (env : Environment) (names : List (List ℕ)) where
-  pub given-known : (none known answered all : List ℕ → Bool) → none ≡ no_names → known ≡ with_all none rules.known →
-      answered ≡ with_all known (in_answers (given_in rules) rules.hardware) → all ≡ with_all answered (in_all (given_in rules) env names) → all ≡ (known_after rules env names).given
-  given-known none known answered all first second third last =
+pub texts-env : (rules : Given) (texts : List (List ℕ)) (f : Followed) → (follow_texts rules texts f).env ≡ f.env
+texts-env rules texts f =
+    fronts-env (follow_fronts f (in_answers (run_in rules) rules.hardware)) (flat_map (run_in rules) texts) ∙ fronts-env f (in_answers (run_in rules) rules.hardware)
+
+pub texts-followed : (first answered filed : Followed) (rules : Given) (texts : List (List ℕ)) → answered ≡ follow_fronts first (in_answers (run_in rules) rules.hardware) →
+    filed ≡ follow_fronts answered (flat_map (run_in rules) texts) → filed ≡ follow_texts rules texts first
+texts-followed first answered filed rules texts one two = two ∙ ap (λ (f : Followed). follow_fronts f (flat_map (run_in rules) texts)) one
+
+module _ (rules : Given) (env : Environment) (texts names : List (List ℕ)) where
+  pub given-known : (none known answered filed all : List ℕ → Bool) → none ≡ no_names → known ≡ with_all none rules.known →
+      answered ≡ with_all known (in_answers (given_in rules) rules.hardware) → filed ≡ with_all answered (flat_map (given_in rules) texts) →
+      all ≡ with_all filed (in_all (given_in rules) env names) → all ≡ (known_after rules env texts names).given
+  given-known none known answered filed all first second third fourth last =
       let a = rules.known in
       let b = in_answers (given_in rules) rules.hardware in
+      let t = flat_map (given_in rules) texts in
       let d = in_all (given_in rules) env names in
-      last ∙ ap (λ (s : List ℕ → Bool). with_all s d) (third ∙ ap (λ (s : List ℕ → Bool). with_all s b) (second ∙ ap (λ (s : List ℕ → Bool). with_all s a) first))
-      ∙ with-append (with_all no_names a) b d ∙ with-append no_names a (b ++ d) ∙ all-among (a ++ (b ++ d))
+      let answers = third ∙ ap (λ (s : List ℕ → Bool). with_all s b) (second ∙ ap (λ (s : List ℕ → Bool). with_all s a) first) in
+      last ∙ ap (λ (s : List ℕ → Bool). with_all s d) (fourth ∙ ap (λ (s : List ℕ → Bool). with_all s t) answers)
+      ∙ with-append (with_all (with_all no_names a) b) t d ∙ with-append (with_all no_names a) b (t ++ d) ∙ with-append no_names a (b ++ (t ++ d)) ∙ all-among (a ++ (b ++ (t ++ d)))
 
-  pub foreseen-known : (none answered all : List ℕ → Bool) → none ≡ no_names → answered ≡ with_all none (in_answers (foreseen_in rules) rules.hardware) →
-      all ≡ with_all answered (in_all (foreseen_in rules) env names) → all ≡ (known_after rules env names).foreseen
-  foreseen-known none answered all first second last =
+  pub foreseen-known : (none answered filed all : List ℕ → Bool) → none ≡ no_names → answered ≡ with_all none (in_answers (foreseen_in rules) rules.hardware) →
+      filed ≡ with_all answered (flat_map (foreseen_in rules) texts) → all ≡ with_all filed (in_all (foreseen_in rules) env names) → all ≡ (known_after rules env texts names).foreseen
+  foreseen-known none answered filed all first second third last =
       let b = in_answers (foreseen_in rules) rules.hardware in
+      let t = flat_map (foreseen_in rules) texts in
       let d = in_all (foreseen_in rules) env names in
-      last ∙ ap (λ (s : List ℕ → Bool). with_all s d) (second ∙ ap (λ (s : List ℕ → Bool). with_all s b) first)
-      ∙ with-append no_names b d ∙ all-among (b ++ d)
+      last ∙ ap (λ (s : List ℕ → Bool). with_all s d) (third ∙ ap (λ (s : List ℕ → Bool). with_all s t) (second ∙ ap (λ (s : List ℕ → Bool). with_all s b) first))
+      ∙ with-append (with_all no_names b) t d ∙ with-append no_names b (t ++ d) ∙ all-among (b ++ (t ++ d))
+
+-- ---- the names that are followed from some on, whatever their scripts name
+
+pub record Walks (in_text : List ℕ → List Front) (env : Environment) (first now : Followed) (index : ℕ) : Type 0 where
+  pub same : now.env ≡ env
+  pub followed : (rest : List (List ℕ)) → AreFollowed in_text now index rest → AreFollowed in_text first 0 (take index now.names ++ rest)
+
+module _ (in_text : List ℕ → List Front) (env : Environment) where
+  pub walks-none : (f : Followed) → f.env ≡ env → Walks in_text env f f 0
+  walks-none f same = record { same = same; followed = λ rest h. h }
+
+  pub walks-next : (first now more : Followed) (index : ℕ) (name : List ℕ) → slice_get now.names index ≡ Some name → more ≡ follow_fronts now (in_text (script_in env name)) → Walks in_text env first now index →
+      Walks in_text env first more (index + 1)
+  walks-next first now more index name here is so_far =
+      let l = fronts-longer now (in_text (script_in env name)) in
+      let next : index + 1 ≡ suc index = omega arith in
+      let names = (λ i. take (next i) ((ap (λ (f : Followed). f.names) is ∙ l.1) i)) ∙ take-next now.names l.0 index name here in
+      let same_text = is ∙ ap (λ (e : Environment). follow_fronts now (in_text (script_in e name))) (sym so_far.same) in
+      record {
+        same = ap (λ (f : Followed). f.env) is ∙ fronts-env now (in_text (script_in env name)) ∙ so_far.same;
+        followed = λ rest h.
+            let after = subst (λ (n : ℕ). AreFollowed in_text more n rest) next h in
+            let all = so_far.followed (name ∷ rest) (here, subst (λ (f : Followed). AreFollowed in_text f (suc index) rest) same_text after) in
+            subst (AreFollowed in_text first 0) (sym (append_assoc (take index now.names) (name ∷ []) rest) ∙ ap (λ (ns : List (List ℕ)). ns ++ rest) (sym names)) all;
+      }
+
+  pub walks-all : (first now : Followed) (index : ℕ) → slice_get now.names index ≡ None → Walks in_text env first now index → AreFollowed in_text first 0 now.names
+  walks-all first now index end w = subst (AreFollowed in_text first 0) (append-nil (take index now.names) ∙ take-whole now.names index end) (w.followed [] end)

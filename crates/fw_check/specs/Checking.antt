@@ -1,5 +1,5 @@
 -- What a check of an environment prints (docs/check.md).
-use Rattle.std.specs.Prelude.{◌≡◌, ◌≢◌, ◌⊎◌, ℕ, ◌==◌, suc, ◌&&◌, ◌||◌, Bool, not, List, [], ◌∷◌, ◌++◌, map, fold, slice_get, codes, Option, Some, None, unwrap_or, if◌then◌else◌}
+use Rattle.std.specs.Prelude.{◌≡◌, ◌≢◌, ◌⊎◌, ℕ, ◌==◌, suc, ◌&&◌, ◌||◌, Bool, true, false, not, List, [], ◌∷◌, ◌++◌, map, fold, slice_get, codes, Option, Some, None, unwrap_or, if◌then◌else◌}
 use Rattle.std.specs.List.{AllByRecursion, flat_map}
 use Rattle.std.specs.FinMap.{entries, get}
 use Rattle.finding_kinds.specs.Choices.{Choice}
@@ -24,8 +24,9 @@ use Rattle.fw_check.specs.declared.items.Item.{Item}
 use Rattle.fw_check.specs.Called.{Given, in_answers}
 use Rattle.fw_check.specs.Menus.{script_of}
 use Rattle.fw_check.specs.Statements.{AreItemsOf}
-use Rattle.fw_check.specs.Following.{Followed, begin_with, follow_fronts, is_among, is_set}
-use Rattle.fw_check.specs.Naming.{foreseen_in, given_in, run_in}
+use Rattle.fw_check.specs.Following.{Followed, follow_fronts, is_among, is_set}
+use Rattle.fw_check.specs.Literals.{Front}
+use Rattle.fw_check.specs.Naming.{asked_in, foreseen_in, given_in, run_in}
 use Rattle.fw_check.specs.Findings.{Finding, fault_sentence, found_at, return_findings, item_findings, Report, no_lines, report_end, with_alone, with_findings, with_script}
 use Rattle.fw_check.specs.Knowing.{Known}
 use Rattle.fw_check.specs.Lines.{Variable, Whole}
@@ -40,9 +41,9 @@ pub data Reading : Type 0 where
 
 -- a text with a fault isn't a script, and has a fault of this kind at this place; which of its tokens is not
 -- expected, and whether such a token is before the fault of a word, is not stated here
-abbrev pub IsReading : Bodies → List ℕ → Reading → Type 0
-IsReading bodies text (Faulty fault) = (fault.kind ≢ Memory) × (read_in bodies text ≡ None) × IsFaultOf text fault
-IsReading bodies text (Script items) = AreItemsOf bodies text items
+abbrev pub IsReading : Bodies → (asked : Bool) → List ℕ → Reading → Type 0
+IsReading bodies asked text (Faulty fault) = (fault.kind ≢ Memory) × (read_in bodies text ≡ None) × IsFaultOf text fault
+IsReading bodies asked text (Script items) = AreItemsOf bodies asked text items
 
 abbrev pub reading_findings : Option Known → Given → List ℕ → Reading → List Finding
 reading_findings known given text (Faulty fault) = found_at fault.place kind.Syntax (fault_sentence fault.kind) ∷ []
@@ -97,55 +98,65 @@ first_report choice env names = fold (with_given env) (no_lines choice) names
 abbrev pub script_in : Environment → List ℕ → List ℕ
 script_in env name = script_of name (unwrap_or (get env name) [])
 
--- from the name of this index on, these names are visited: those that each one's script runs are added last
+-- from the name of this index on, these names are followed: those that each one's script names are added last
+abbrev pub AreFollowed : (in_text : List ℕ → List Front) → Followed → ℕ → List (List ℕ) → Type 0
+AreFollowed in_text f index [] = slice_get f.names index ≡ None
+AreFollowed in_text f index (v ∷ vs) =
+    (slice_get f.names index ≡ Some v) × AreFollowed in_text (follow_fronts f (in_text (script_in f.env v))) (suc index) vs
+
+-- these names are visited: what each one's script runs
 abbrev pub AreVisited : Given → Followed → ℕ → List (List ℕ) → Type 0
-AreVisited given f index [] = slice_get f.names index ≡ None
-AreVisited given f index (v ∷ vs) =
-    (slice_get f.names index ≡ Some v) × AreVisited given (follow_fronts f (run_in given (script_in f.env v))) (suc index) vs
+AreVisited given f index names = AreFollowed (run_in given) f index names
 
 -- the names in all these scripts, by those in a text
 abbrev pub in_all : (names_in : List ℕ → List (List ℕ)) → Environment → List (List ℕ) → List (List ℕ)
 in_all names_in env visited = flat_map (λ name. names_in (script_in env name)) visited
 
--- the same, and those in the texts that answer calls
-abbrev pub in_read : (names_in : List ℕ → List (List ℕ)) → Given → Environment → List (List ℕ) → List (List ℕ)
-in_read names_in given env visited = in_answers names_in given.hardware ++ in_all names_in env visited
+-- the same, and those in the texts that answer calls and in these of files
+abbrev pub in_read : (names_in : List ℕ → List (List ℕ)) → Given → Environment → (texts : List (List ℕ)) → List (List ℕ) → List (List ℕ)
+in_read names_in given env texts visited = in_answers names_in given.hardware ++ (flat_map names_in texts ++ in_all names_in env visited)
 
--- what is known of names, if these are the names of the scripts that are read
-abbrev pub known_after : Given → Environment → List (List ℕ) → Known
-known_after given env visited = record {
+-- what is known of names, if these are the texts of files, and the names of the scripts that are read
+abbrev pub known_after : Given → Environment → (texts : List (List ℕ)) → List (List ℕ) → Known
+known_after given env texts visited = record {
   env = env;
-  given = is_among (given.known ++ in_read (given_in given) given env visited);
-  foreseen = is_among (in_read (foreseen_in given) given env visited);
+  given = is_among (given.known ++ in_read (given_in given) given env texts visited);
+  foreseen = is_among (in_read (foreseen_in given) given env texts visited);
 }
+
+-- the names of the scripts whose statuses these texts of files and these scripts ask for
+abbrev pub asked_of_files : Given → Environment → (texts : List (List ℕ)) → Followed
+asked_of_files given env texts = follow_fronts (record { env = env; names = [] }) (flat_map (asked_in given false) texts)
+
+abbrev pub asked_first : Given → Environment → (texts visited : List (List ℕ)) → Followed
+asked_first given env texts visited =
+    follow_fronts (asked_of_files given env texts) (flat_map (λ name. asked_in given false (script_in env name)) visited)
+
+-- and those whose statuses the ends of the scripts of these names ask for
+abbrev pub AreAsked : Given → Environment → (texts visited asked : List (List ℕ)) → Type 0
+AreAsked given env texts visited asked = AreFollowed (asked_in given true) (asked_first given env texts visited) 0 asked
 
 -- a variable, and what its value is read as
 pub record Visit : Type 0 where
   pub name : List ℕ
   pub reading : Reading
 
-abbrev pub IsVisit : Bodies → Environment → Visit → Type 0
-IsVisit bodies env v = IsReading bodies (script_in env v.name) v.reading
+abbrev pub IsVisit : Bodies → Environment → (asked : List ℕ → Bool) → Visit → Type 0
+IsVisit bodies env asked v = IsReading bodies (asked v.name) (script_in env v.name) v.reading
 
 abbrev pub after_visit : Environment → Option Known → Given → Report → Visit → Report
 after_visit env known given report v =
     with_findings (Variable v.name) (script_in env v.name) (with_script report) (findings known given (script_in env v.name) v.reading)
 
 -- with what is found in the scripts of these names, `report` becomes `final`
-abbrev pub Reports : Environment → Option Known → Given → List (List ℕ) → Report → Report → Type 0
-Reports env known given names report final =
-    (visits : List Visit) × (map (λ v. v.name) visits ≡ names) × AllByRecursion (IsVisit (bodies_of given.shell) env) visits
+abbrev pub Reports : Environment → Option Known → Given → (asked : List ℕ → Bool) → List (List ℕ) → Report → Report → Type 0
+Reports env known given asked names report final =
+    (visits : List Visit) × (map (λ v. v.name) visits ≡ names) × AllByRecursion (IsVisit (bodies_of given.shell) env asked) visits
     × (fold (after_visit env known given) report visits ≡ final)
 
--- what is followed before any script is read: these names, and what the texts run that answer calls
-abbrev pub follow_first : Given → Environment → List (List ℕ) → Followed
-follow_first given env names = follow_fronts (begin_with env names) (in_answers (run_in given) given.hardware)
-
--- a check that begins with what is followed so far and this report ends with `final`
-abbrev pub ComesTo : Given → Followed → Report → Report → Type 0
-ComesTo given f report final =
-    (visited : List (List ℕ)) × AreVisited given f 0 visited
-    × Reports f.env (Some (known_after given f.env visited)) given visited report final
+-- what is followed after what a check begins with: what the texts run that answer calls, and then these of files
+abbrev pub follow_texts : Given → (texts : List (List ℕ)) → Followed → Followed
+follow_texts given texts f = follow_fronts (follow_fronts f (in_answers (run_in given) given.hardware)) (flat_map (run_in given) texts)
 
 -- ---- no script, and values without their types
 
@@ -166,11 +177,6 @@ with_typed env report p =
 abbrev pub with_types : Environment → Report → Report
 with_types env report = fold (with_typed env) report (entries env)
 
--- ---- the whole
-
--- a check of an environment from these names on
-abbrev pub Checks : Given → Environment → Choice → List (List ℕ) → Writers → Writers → ToolEnd → Type 0
-Checks given env choice names old new end =
-    ((report : Report) × ComesTo given (follow_first given env names) (first_report choice env names) report
-    × PrintsReport old new (with_types env (with_none report)) end)
-    ⊎ LacksMemory old new end
+-- these, unless the scripts of files are checked
+abbrev pub with_whole : (alone : Bool) → Environment → Report → Report
+with_whole alone env report = if alone then with_types env (with_none report) else report

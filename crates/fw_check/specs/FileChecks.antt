@@ -1,11 +1,13 @@
--- What a check of scripts in files prints (docs/check.md, "Which scripts").
-use Rattle.std.specs.Prelude.{◌≡◌, ◌⊎◌, ℕ, List, [], ◌∷◌, map, Option, None}
+-- What a check prints of an environment and of scripts in files (docs/check.md, "Which scripts").
+use Rattle.std.specs.Prelude.{◌≡◌, ◌⊎◌, ℕ, ◌==◌, Bool, false, List, [], ◌∷◌, length, map, Option, Some, None}
+use Rattle.envimg_core.specs.Environment.{Environment}
 use Rattle.finding_kinds.specs.Choices.{Choice}
 use Rattle.fw_engines.specs.Streams.{Writers}
 use Rattle.fw_engines.specs.declared.tool_end.ToolEnd.{ToolEnd}
 use Rattle.fw_check.specs.Called.{Given}
-use Rattle.fw_check.specs.Checking.{LacksMemory, PrintsReport}
+use Rattle.fw_check.specs.Checking.{AreAsked, AreVisited, LacksMemory, PrintsReport, Reports, first_report, follow_texts, known_after, with_whole}
 use Rattle.fw_check.specs.Findings.{Report, no_lines}
+use Rattle.fw_check.specs.Following.{Followed, begin_with, is_among}
 use Rattle.fw_check.specs.Knowing.{Known}
 use Rattle.fw_check.specs.Lines.{File}
 use Rattle.fw_check.specs.Reports.{GoesOn}
@@ -19,16 +21,43 @@ pub record FileScript : Type 0 where
 abbrev pub paths_of : List FileScript → List (List ℕ)
 paths_of scripts = map (λ s. s.path) scripts
 
+abbrev pub script_texts : List FileScript → List (List ℕ)
+script_texts scripts = map (λ s. s.text) scripts
+
+-- whether the environment is checked alone
+abbrev pub is_alone : List FileScript → Bool
+is_alone scripts = length scripts == 0
+
 -- with what is found in these, one after the other, `report` becomes `final`
 abbrev pub ReportsFiles : Option Known → Given → List FileScript → Report → Report → Type 0
 ReportsFiles known given [] report final = final ≡ report
 ReportsFiles known given (s ∷ ss) report final =
-    (after : Report) × GoesOn known given (File s.path) s.text report after × ReportsFiles known given ss after final
+    (after : Report) × GoesOn known given (File s.path) false s.text report after × ReportsFiles known given ss after final
 
 -- a check of them, without an environment; or memory ran out before anything was written
 abbrev pub ChecksFiles : Given → Choice → List FileScript → Writers → Writers → ToolEnd → Type 0
 ChecksFiles given choice scripts old new end =
     ((report : Report) × ReportsFiles None given scripts (no_lines choice) report × PrintsReport old new report end)
+    ⊎ LacksMemory old new end
+
+-- a check that begins with what is followed so far and this report ends with `final`: the scripts of files are checked, and then those that
+-- are followed
+abbrev pub ComesTo : Given → Followed → List FileScript → Report → Report → Type 0
+ComesTo given f scripts report final =
+    (visited asked : List (List ℕ)) × (after : Report) × AreVisited given f 0 visited
+    × AreAsked given f.env (script_texts scripts) visited asked
+    × ReportsFiles (Some (known_after given f.env (script_texts scripts) visited)) given scripts report after
+    × Reports f.env (Some (known_after given f.env (script_texts scripts) visited)) given (is_among asked) visited after final
+
+-- what is followed before any script is read
+abbrev pub follow_first : Given → Environment → List (List ℕ) → List FileScript → Followed
+follow_first given env names scripts = follow_texts given (script_texts scripts) (begin_with env (is_alone scripts) names)
+
+-- a check of an environment from these names on, and of scripts in files over it
+abbrev pub Checks : Given → Environment → Choice → List (List ℕ) → List FileScript → Writers → Writers → ToolEnd → Type 0
+Checks given env choice names scripts old new end =
+    ((report : Report) × ComesTo given (follow_first given env names scripts) scripts (first_report choice env names) report
+    × PrintsReport old new (with_whole (is_alone scripts) env report) end)
     ⊎ LacksMemory old new end
 
 -- the code's scripts, in this form

@@ -22,7 +22,7 @@ use Rattle.fw_check.specs.Commands.{begin_in_parentheses, begin_with_comparison,
 use Rattle.fw_check.specs.Foreign.{foreign_of, foreign_sentence, plain_of}
 use Rattle.fw_check.specs.JsonLines.{line_in}
 use Rattle.fw_check.specs.Lines.{Line, Subject}
-use Rattle.fw_check.specs.Literals.{Front, front_of, is_called, literal_of, substituted}
+use Rattle.fw_check.specs.Literals.{Front, front_of, is_called, is_mark, is_shown, literal_of, substituted}
 use Rattle.fw_check.specs.Knowing.{Known, field_of, is_defined, is_lacking, is_undefined}
 use Rattle.fw_check.specs.Misuse.{misuse_of, misuse_sentence}
 use Rattle.fw_check.specs.Naming.{is_exit, is_run, is_test}
@@ -33,6 +33,7 @@ use Rattle.fw_check.specs.declared.foreign.Foreign.{Foreign}
 use Rattle.fw_check.specs.declared.items.Item.{Item}
 use Rattle.fw_check.specs.declared.items.Item.TheVariants as item
 use Rattle.fw_check.specs.declared.misuse.Misuse.{Misuse}
+use Rattle.fw_check.specs.declared.settings.Setting.{Setting}
 use Rattle.fw_check.specs.declared.misuse.Misuse.TheVariants as misuse
 
 -- `count` bytes of the script are before it
@@ -145,6 +146,37 @@ return_sentence = codes "a carriage return stands in the script"
 -- the first carriage return of a text
 abbrev pub return_findings : List ℕ → List Finding
 return_findings text = if list_any is_return text then found_at (position_or_len is_return text) kind.CarriageReturn return_sentence ∷ [] else []
+
+-- ---- statuses that shells leave in different ways
+
+abbrev pub found_if : Bool → ℕ → FindingKind → (sentence : List ℕ) → List Finding
+found_if found count k sentence = if found then found_at count k sentence ∷ [] else []
+
+abbrev pub mixed_sentence : List ℕ
+mixed_sentence = codes "a board skips the rest of a chain once a command of it is skipped"
+
+abbrev pub branchless_sentence : List ℕ
+branchless_sentence = codes "shells differ in the status of an `if` without `else`"
+
+abbrev pub loop_sentence : List ℕ
+loop_sentence = codes "shells differ in the status of a `while` or `until`"
+
+abbrev pub stale_sentence : List ℕ
+stale_sentence = codes "shells differ in the `$?` with which a text or a turn of `for` begins"
+
+-- at the first command of the chain's part, the `if`, the loop, the text or the turn; `shows`: it has a `$?`
+abbrev pub setting_findings : Setting → ℕ → (shows : Bool) → List Finding
+setting_findings s count shows =
+    found_if s.mixes count kind.AndOr mixed_sentence ++ found_if s.branchless count kind.IfStatus branchless_sentence
+    ++ found_if s.loops count kind.LoopStatus loop_sentence ++ found_if (s.begins && shows) count kind.StaleStatus stale_sentence
+
+abbrev pub shows_in : Written → Word → Bool
+shows_in text word = list_any is_shown (word_atoms text word)
+
+-- those of a simple command; one without words has no place
+abbrev pub begun_by : Written → Setting → List Word → List Finding
+begun_by text s [] = []
+begun_by text s (word ∷ words) = setting_findings s word.start (list_any (shows_in text) (word ∷ words))
 
 -- ---- simple commands
 
@@ -323,29 +355,38 @@ assigned_findings shell known count None = []
 assigned_findings shell known count (Some name) =
     if is_defined known name then found_at count kind.HiddenAssignment (refused_sentence shell name) ∷ [] else []
 
--- a board cuts the words of a `for` at spaces and newlines, in quotes too; here, a word without a substitution
+-- a board cuts the words of a `for` at spaces and newlines, in quotes too
 abbrev pub is_cut : ℕ → Bool
 is_cut b = b == 32 || b == 10
 
-abbrev pub is_cut_in : Option (List ℕ) → Bool
-is_cut_in None = false
-is_cut_in (Some bytes) = list_any is_cut bytes
+-- one without bytes is none to it
+abbrev pub is_literal_cut : List ℕ → Bool
+is_literal_cut bytes = length bytes == 0 || list_any is_cut bytes
+
+abbrev pub is_cut_in : List Atom → Option (List ℕ) → Bool
+is_cut_in atoms None = list_any is_mark atoms
+is_cut_in atoms (Some bytes) = is_literal_cut bytes
 
 abbrev pub cut_sentence : List ℕ
 cut_sentence = codes "a board cuts this word of a `for` at its blanks, in quotes too"
 
 abbrev pub cut_findings : Written → Word → List Finding
-cut_findings text word = if is_cut_in (literal_of (word_atoms text word)) then found_at word.start kind.QuotedFor cut_sentence ∷ [] else []
+cut_findings text word = if is_cut_in (word_atoms text word) (literal_of (word_atoms text word)) then found_at word.start kind.QuotedFor cut_sentence ∷ [] else []
 
 -- ---- a whole script
 
+abbrev pub call_findings : Option Known → Given → Written → List Word → List Finding
+call_findings known given text words =
+    command_findings known given text words ++ arguments_foreign given text words ++ exit_findings given text words
+    ++ use_findings known given text words ++ operator_findings given text words
+    ++ run_findings known given text words ++ flat_map (word_findings known text) words
+
 abbrev pub item_findings : Option Known → Given → Written → Item → List Finding
-item_findings known given text (item.Call words) =
-    command_findings known given text words.now ++ arguments_foreign given text words.now ++ exit_findings given text words.now
-    ++ use_findings known given text words.now ++ operator_findings given text words.now
-    ++ run_findings known given text words.now ++ flat_map (word_findings known text) words.now
-item_findings known given text (item.Assignment name value) =
-    assigned_findings given.shell known name.start (literal_of (word_atoms text name)) ++ word_findings known text value
-item_findings known given text (item.Binding name words) =
-    assigned_findings given.shell known name.start (literal_of (word_atoms text name))
+item_findings known given text (item.Call s words) = begun_by text s words.now ++ call_findings known given text words.now
+item_findings known given text (item.Assignment s name value) =
+    setting_findings s name.start (shows_in text value)
+    ++ assigned_findings given.shell known name.start (literal_of (word_atoms text name)) ++ word_findings known text value
+item_findings known given text (item.Binding s name words) =
+    setting_findings s name.start (list_any (shows_in text) words.now)
+    ++ assigned_findings given.shell known name.start (literal_of (word_atoms text name))
     ++ flat_map (cut_findings text) words.now ++ flat_map (foreign_findings text) words.now ++ flat_map (word_findings known text) words.now

@@ -1,5 +1,5 @@
 -- Which scripts are read (docs/check.md, "Which scripts").
-use Rattle.std.specs.Prelude.{ℕ, ◌==◌, ◌&&◌, Bool, not, List, [], ◌∷◌, ◌++◌, length, map, fold, filter, nat_eq, codes, is_some, unwrap_or, if◌then◌else◌, refl}
+use Rattle.std.specs.Prelude.{ℕ, ◌==◌, ◌&&◌, Bool, true, false, not, List, [], ◌∷◌, ◌++◌, length, map, fold, filter, nat_eq, codes, is_some, unwrap_or, if◌then◌else◌, refl}
 use Rattle.std.specs.List.{list_any, starts_with}
 use Rattle.std.specs.Ordering.{eq_by_cmp}
 use Rattle.std.specs.Coded.{Coded, code_by, coded×, coded_ℕ, coded_list}
@@ -77,10 +77,12 @@ follow_menu f more = record { env = f.env; names = fold (with_entry f.env) f.nam
 abbrev pub follow_entries : Followed → Followed
 follow_entries f = follow_menu f (names_with menu_front (names_of f.env))
 
--- what a check begins with: the names that it is given, without any the usual ones and the entries of a boot menu
-abbrev pub begin_from : Followed → List (List ℕ) → Followed
-begin_from f [] = follow_entries (follow_names f usual_names)
-begin_from f (name ∷ names) = follow_names f (name ∷ names)
+-- what a check begins with: the names that it is given; without any the usual ones and the entries of a boot menu, unless the scripts of
+-- files are checked
+abbrev pub begin_from : Followed → (alone : Bool) → List (List ℕ) → Followed
+begin_from f false [] = f
+begin_from f true [] = follow_entries (follow_names f usual_names)
+begin_from f alone (name ∷ names) = follow_names f (name ∷ names)
 
-abbrev pub begin_with : Environment → List (List ℕ) → Followed
-begin_with env names = begin_from (record { env = env; names = [] }) names
+abbrev pub begin_with : Environment → (alone : Bool) → List (List ℕ) → Followed
+begin_with env alone names = begin_from (record { env = env; names = [] }) alone names

@@ -1,28 +1,33 @@
 -- How the statements of a script are gathered: node by node, with the nodes still to come on a stack.
-use Rattle.std.specs.Prelude.{◌≡◌, ℕ, ◌+◌, ◌<◌, List, [], ◌∷◌, ◌++◌, map, Option, Some, None, option_to_list, IsSome}
+use Rattle.std.specs.Prelude.{◌≡◌, ℕ, ◌+◌, ◌<◌, Bool, true, false, List, [], ◌∷◌, ◌++◌, map, Option, Some, None, option_to_list, is_none, IsSome}
 use Rattle.std.specs.List.{flat_map}
 use Rattle.hush_words.specs.Parts.{Written}
 use Rattle.hush_syntax.specs.declared.nodes.NodeId.{NodeId}
 use Rattle.hush_syntax.specs.declared.nodes.Branch as branch
+use Rattle.hush_syntax.specs.declared.nodes.Link as link
+use Rattle.hush_syntax.specs.declared.nodes.Operator.{Operator}
 use Rattle.hush_syntax.specs.Grammar.{Command, Simple, Assign, If, For, While, Until, Branches, Elif, Else, Fi, Chain, First, Links, End, Link, Chains, Last, More}
 use Rattle.hush_syntax.specs.Nodes.{At, Subtree, OfChains, OfChain, OfCommand}
 use Rattle.fw_check.specs.declared.items.Item.{Item}
+use Rattle.fw_check.specs.Settings.{in_chain, in_if, in_list, plain}
 use Rattle.fw_check.specs.Statements.{Statement, statement_of, of_command, of_chain, of_list}
+use Rattle.fw_check.specs.declared.items.Part.{Part}
+use Rattle.fw_check.specs.declared.settings.Setting.{Setting}
 
-abbrev pub of_subtree : Option Subtree → List Statement
-of_subtree None = []
-of_subtree (Some (OfChains cs)) = of_list cs
-of_subtree (Some (OfChain c)) = of_chain c
-of_subtree (Some (OfCommand c)) = of_command c
+abbrev pub of_subtree : (shows : Bool) → Setting → Option Subtree → List Statement
+of_subtree shows s None = []
+of_subtree shows s (Some (OfChains cs)) = of_list shows s true cs
+of_subtree shows s (Some (OfChain c)) = of_chain shows s c
+of_subtree shows s (Some (OfCommand c)) = of_command shows s c
 
--- the statements of the nodes that are still to come
-abbrev pub still_to_come : At → List NodeId → List Statement
-still_to_come at ids = flat_map (λ id. of_subtree (at id)) ids
+-- the statements of the parts that are still to come
+abbrev pub still_to_come : (shows : Bool) → At → List Part → List Statement
+still_to_come shows at parts = flat_map (λ p. of_subtree shows p.setting (at p.id)) parts
 
 -- each of them is a node of the script
-abbrev pub AreKnown : At → List NodeId → Type 0
+abbrev pub AreKnown : At → List Part → Type 0
 AreKnown at [] = Unit {0}
-AreKnown at (id ∷ ids) = IsSome (at id) × AreKnown at ids
+AreKnown at (p ∷ parts) = IsSome (at p.id) × AreKnown at parts
 
 -- greater than the sizes of its parts together
 abbrev mutual
@@ -56,19 +61,46 @@ size_of (Some (OfChains cs)) = list_size cs
 size_of (Some (OfChain c)) = chain_size c
 size_of (Some (OfCommand c)) = command_size c
 
-abbrev pub size_at : At → List NodeId → ℕ
+abbrev pub size_at : At → List Part → ℕ
 size_at at [] = 0
-size_at at (id ∷ ids) = size_of (at id) + size_at at ids
+size_at at (p ∷ parts) = size_of (at p.id) + size_at at parts
+
+abbrev pub part : NodeId → Setting → Part
+part id s = record { id = id; setting = s }
+
+abbrev pub is_nil : {X : Type 0} → List X → Bool
+is_nil [] = true
+is_nil (x ∷ xs) = false
+
+-- the chains of a list
+abbrev pub list_parts : (shows : Bool) → Setting → (first : Bool) → List NodeId → List Part
+list_parts shows s first [] = []
+list_parts shows s first (id ∷ ids) = part id (in_list shows s first (is_nil ids)) ∷ list_parts shows s false ids
+
+-- the commands of a chain
+abbrev pub operator_of : List link.Link → Option Operator
+operator_of [] = None
+operator_of (l ∷ []) = None
+operator_of (l ∷ m ∷ ls) = m.operator
+
+abbrev pub link_parts : Setting → (operator : Option Operator) → (first : Bool) → List link.Link → List Part
+link_parts s operator first [] = []
+link_parts s operator first (l ∷ ls) = part l.command (in_chain s operator l.operator first (is_nil ls)) ∷ link_parts s operator false ls
 
 -- the parts of an `if`
-abbrev pub branch_parts : List branch.Branch → List NodeId
-branch_parts bs = flat_map (λ b. b.condition ∷ b.body ∷ []) bs
+abbrev pub branch_parts : Setting → (bare first : Bool) → List branch.Branch → List Part
+branch_parts s bare first [] = []
+branch_parts s bare first (b ∷ bs) = part b.condition (in_if s bare first) ∷ part b.body (plain s.asked) ∷ branch_parts s bare false bs
 
-abbrev pub if_parts : List branch.Branch → Option NodeId → List NodeId
-if_parts bs otherwise = branch_parts bs ++ option_to_list otherwise
+abbrev pub otherwise_part : Setting → Option NodeId → List Part
+otherwise_part s None = []
+otherwise_part s (Some id) = part id (plain s.asked) ∷ []
 
--- a node's statements are these items, and then those of these nodes, which are smaller together
-pub record HasParts (text : Written) (at : At) (id : NodeId) (items : List Item) (ids : List NodeId) : Type 0 where
-  pub known : AreKnown at ids
-  pub same : of_subtree (at id) ≡ map (statement_of text) items ++ still_to_come at ids
-  pub smaller : size_at at ids < size_of (at id)
+abbrev pub if_parts : Setting → (first : Bool) → List branch.Branch → Option NodeId → List Part
+if_parts s first bs otherwise = branch_parts s (is_none otherwise) first bs ++ otherwise_part s otherwise
+
+-- a part's statements are these items, and then those of these parts, which are smaller together
+pub record HasParts (text : Written) (shows : Bool) (at : At) (p : Part) (items : List Item) (parts : List Part) : Type 0 where
+  pub known : AreKnown at parts
+  pub same : of_subtree shows p.setting (at p.id) ≡ map (statement_of text) items ++ still_to_come shows at parts
+  pub smaller : size_at at parts < size_of (at p.id)

@@ -1,4 +1,5 @@
 -- What the public calls promise.
+pub mod Settings
 pub mod Statements
 pub mod Literals
 pub mod Knowing

@@ -43,6 +43,21 @@ substituted (Mark ∷ atoms) = substituted atoms
 substituted (Value name quoted ∷ atoms) = name ∷ substituted atoms
 substituted (Status quoted ∷ atoms) = substituted atoms
 
+-- a `$?`, and quotes
+abbrev pub is_shown : Atom → Bool
+is_shown (Plain b) = false
+is_shown (Quoted b) = false
+is_shown Mark = false
+is_shown (Value name quoted) = false
+is_shown (Status quoted) = true
+
+abbrev pub is_mark : Atom → Bool
+is_mark (Plain b) = false
+is_mark (Quoted b) = false
+is_mark Mark = true
+is_mark (Value name quoted) = false
+is_mark (Status quoted) = false
+
 -- a word without a substitution that is this text
 abbrev pub is_called : List ℕ → Option (List ℕ) → Bool
 is_called text None = false

@@ -1,5 +1,5 @@
 -- The names that statements run, give to something and foresee (docs/check.md).
-use Rattle.std.specs.Prelude.{ℕ, Bool, false, List, [], ◌∷◌, map, codes, Option, Some, None, option_to_list, if◌then◌else◌}
+use Rattle.std.specs.Prelude.{ℕ, ◌-◌, Bool, false, List, [], ◌∷◌, map, codes, length, take, Option, Some, None, option_to_list, if◌then◌else◌}
 use Rattle.std.specs.List.{flat_map}
 use Rattle.hush_words.specs.Words.{Atom}
 use Rattle.hush_commands.specs.declared.shell.Shell.{Shell}
@@ -7,6 +7,7 @@ use Rattle.hush_run.specs.Meaning.{bodies_of}
 use Rattle.fw_check.specs.Called.{Given, called_by, is_after_env}
 use Rattle.fw_check.specs.Literals.{Front, front_of, is_called, is_word_of, literal_of, substituted}
 use Rattle.fw_check.specs.Statements.{Statement, Calls, Assigns, Binds, statements_in}
+use Rattle.fw_check.specs.declared.settings.Setting.{Setting}
 
 abbrev pub is_run : Option (List ℕ) → Bool
 is_run called = is_called (codes "run") called
@@ -24,13 +25,31 @@ run_by given [] = []
 run_by given (word ∷ words) = if is_run (called_by given word) then map front_of words else []
 
 abbrev pub run_fronts : Given → Statement → List Front
-run_fronts given (Calls words) = run_by given words
-run_fronts given (Assigns name value) = []
-run_fronts given (Binds name words) = []
+run_fronts given (Calls s words) = run_by given words
+run_fronts given (Assigns s name value) = []
+run_fronts given (Binds s name words) = []
 
 -- those in the script of a text
 abbrev pub run_in : Given → List ℕ → List Front
-run_in given text = flat_map (run_fronts given) (statements_in (bodies_of given.shell) text)
+run_in given text = flat_map (run_fronts given) (statements_in (bodies_of given.shell) false text)
+
+-- ---- those whose statuses are asked for; a `run` asks for that of each but the last
+
+abbrev pub asked_words : Setting → List (List Atom) → List (List Atom)
+asked_words s words = if s.asked then words else take (length words - 1) words
+
+abbrev pub asked_by : Given → Setting → List (List Atom) → List Front
+asked_by given s [] = []
+asked_by given s (word ∷ words) = if is_run (called_by given word) then map front_of (asked_words s words) else []
+
+abbrev pub asked_fronts : Given → Statement → List Front
+asked_fronts given (Calls s words) = asked_by given s words
+asked_fronts given (Assigns s name value) = []
+asked_fronts given (Binds s name words) = []
+
+-- those in the script of a text, whose own status is asked for or isn't
+abbrev pub asked_in : Given → (asked : Bool) → List ℕ → List Front
+asked_in given asked text = flat_map (asked_fronts given) (statements_in (bodies_of given.shell) asked text)
 
 -- ---- names that are given to something
 
@@ -48,13 +67,13 @@ given_by given [] = []
 given_by given (word ∷ words) = flat_map (argument_names (is_test (called_by given word))) words
 
 abbrev pub given_names : Given → Statement → List (List ℕ)
-given_names given (Calls words) = given_by given words
-given_names given (Assigns name value) = name ∷ []
-given_names given (Binds name words) = name ∷ []
+given_names given (Calls s words) = given_by given words
+given_names given (Assigns s name value) = name ∷ []
+given_names given (Binds s name words) = name ∷ []
 
 -- those that the script of a text gives
 abbrev pub given_in : Given → List ℕ → List (List ℕ)
-given_in given text = flat_map (given_names given) (statements_in (bodies_of given.shell) text)
+given_in given text = flat_map (given_names given) (statements_in (bodies_of given.shell) false text)
 
 -- ---- names that are foreseen: a command sets their variables, tests them, or asks for them
 
@@ -98,10 +117,10 @@ foreseen_by given [] = []
 foreseen_by given (word ∷ words) = foreseen_as given.shell (called_by given word) words
 
 abbrev pub foreseen_names : Given → Statement → List (List ℕ)
-foreseen_names given (Calls words) = foreseen_by given words
-foreseen_names given (Assigns name value) = []
-foreseen_names given (Binds name words) = []
+foreseen_names given (Calls s words) = foreseen_by given words
+foreseen_names given (Assigns s name value) = []
+foreseen_names given (Binds s name words) = []
 
 -- those that the script of a text foresees
 abbrev pub foreseen_in : Given → List ℕ → List (List ℕ)
-foreseen_in given text = flat_map (foreseen_names given) (statements_in (bodies_of given.shell) text)
+foreseen_in given text = flat_map (foreseen_names given) (statements_in (bodies_of given.shell) false text)

@@ -1,5 +1,5 @@
 -- What the steps of a check add to its report.
-use Rattle.std.specs.Prelude.{◌≡◌, ℕ, List, Option}
+use Rattle.std.specs.Prelude.{◌≡◌, ℕ, Bool, List, Option}
 use Rattle.std.specs.List.{flat_map}
 use Rattle.hush_words.specs.Parts.{written}
 use Rattle.hush_run.specs.Meaning.{bodies_of}
@@ -14,14 +14,14 @@ use Rattle.fw_check.specs.Lines.{Subject}
 
 module _ (known : Option Known) (given : Given) where
   -- what is found in the statements of a script was added
-  abbrev pub ReadsItems : List ℕ → Found → Found → Type 0
-  ReadsItems text old new =
-      (items : List Item) × AreItemsOf (bodies_of given.shell) text items × (new ≡ found_more old (flat_map (item_findings known given (written text)) items))
+  abbrev pub ReadsItems : (asked : Bool) → List ℕ → Found → Found → Type 0
+  ReadsItems asked text old new =
+      (items : List Item) × AreItemsOf (bodies_of given.shell) asked text items × (new ≡ found_more old (flat_map (item_findings known given (written text)) items))
 
   -- the same for what a text is read as
-  abbrev pub Reads : List ℕ → Found → Found → Type 0
-  Reads text old new = (reading : Reading) × IsReading (bodies_of given.shell) text reading × (new ≡ found_more old (reading_findings known given text reading))
+  abbrev pub Reads : (asked : Bool) → List ℕ → Found → Found → Type 0
+  Reads asked text old new = (reading : Reading) × IsReading (bodies_of given.shell) asked text reading × (new ≡ found_more old (reading_findings known given text reading))
 
-  -- a report was continued with what is found in a script
-  abbrev pub GoesOn : Subject → (text : List ℕ) → Report → Report → Type 0
-  GoesOn subject text old new = (reading : Reading) × IsReading (bodies_of given.shell) text reading × (new ≡ with_findings subject text (with_script old) (findings known given text reading))
+  -- a report was continued with what is found in a script, whose status is asked for or isn't
+  abbrev pub GoesOn : Subject → (asked : Bool) → (text : List ℕ) → Report → Report → Type 0
+  GoesOn subject asked text old new = (reading : Reading) × IsReading (bodies_of given.shell) asked text reading × (new ≡ with_findings subject text (with_script old) (findings known given text reading))

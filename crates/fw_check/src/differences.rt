@@ -1,11 +1,12 @@
 //! What boards do in different ways (docs/differences.md).
 ghost use Rattle.std.specs.Prelude.{◌≡◌, OnOk, option_map};
 ghost use Rattle.std.specs.List.{flat_map, list_any};
-ghost use Rattle.fw_check.specs.Findings.{cut_findings, exit_if, is_cut, is_cut_in};
+ghost use Rattle.fw_check.specs.Findings.{cut_findings, exit_if, is_cut, is_cut_in, is_literal_cut};
+ghost use Rattle.hush_words.specs.Parts.{word_atoms};
 ghost use Rattle.fw_check.specs.Found.{found_more};
 
 use crate::findings::Findings;
-use crate::literals::literal;
+use crate::literals::{has_mark, literal};
 use crate::lookups::Lookups;
 use finding_kinds::FindingKind;
 use hush_syntax::{Text, Word};
@@ -57,20 +58,27 @@ fn check_cut(
     ensures { OnOk result (findings.new ≡ found_more findings.old (cut_findings text.now word)) }
 {
     let bytes = literal(lookups.alloc, text, word)?;
-    if is_cut_in(&bytes) {
+    if is_cut_in(text, word, &bytes) {
         findings.add(word.start as usize, FindingKind::QuotedFor, CUT, b"", b"")?;
     }
     Ok(())
 }
 
-/// Whether a board cuts a word without a substitution.
-fn is_cut_in(bytes: &Option<Vec<u8>>) -> bool
-    ensures { result ≡ is_cut_in (option_map (λ v. v.items) bytes.now) }
+/// Whether a board cuts a word, which is these bytes if it is without a substitution.
+fn is_cut_in(text: &Text, word: Word, bytes: &Option<Vec<u8>>) -> bool
+    ensures { result ≡ is_cut_in (word_atoms text.now word) (option_map (λ v. v.items) bytes.now) }
 {
     match bytes {
-        Some(bytes) => has_cut(bytes),
-        None => false,
+        Some(bytes) => is_literal_cut(bytes),
+        None => has_mark(text, word),
     }
+}
+
+/// Whether it cuts these bytes of a word, or takes it for none.
+fn is_literal_cut(bytes: &[u8]) -> bool
+    ensures { result ≡ is_literal_cut bytes.now }
+{
+    bytes.is_empty() || has_cut(bytes)
 }
 
 /// Whether it cuts a text.

@@ -52,7 +52,7 @@ pub fn check_files<W: Write, E: Write>(
 }
 
 /// Continues a report with what is found in these scripts.
-fn check_scripts<'c>(
+pub(crate) fn check_scripts<'c>(
     lookups: &Lookups<'_>,
     scripts: &[FileScript<'_>],
     report: Report<'c>,
@@ -62,7 +62,13 @@ fn check_scripts<'c>(
 {
     let mut so_far = report;
     for script in scripts {
-        so_far = check_script(lookups, so_far, Subject::File(script.path), &script.text)?;
+        so_far = check_script(
+            lookups,
+            so_far,
+            Subject::File(script.path),
+            false,
+            &script.text,
+        )?;
     }
     Ok(so_far)
 }

@@ -44,6 +44,13 @@ impl Names {
         self.order.as_slice()
     }
 
+    /// Whether a name is one of them.
+    pub(crate) fn has(&self, name: &[u8]) -> bool
+        ensures { result ≡ is_among self.now name.now }
+    {
+        self.met.has(name)
+    }
+
     /// A copy of the name at this index, if there is one.
     pub(crate) fn copy(&self, alloc: Global, index: usize) -> Result<Option<Vec<u8>>, AllocError>
         ensures name { IfOk result (λ name. option_map (λ v. v.items) name ≡ slice_get self.now index) }

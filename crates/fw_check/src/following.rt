@@ -1,6 +1,6 @@
 //! The names whose scripts are checked.
 ghost use Rattle.std.specs.Prelude.{◌≡◌, ◌<◌, ◌∷◌, [], IfOk, OnOk, OnSome, option_map, slice_get, map};
-ghost use Rattle.fw_check.specs.Following.{follow_entries, follow_front, follow_menu, follow_names, names_of, names_with};
+ghost use Rattle.fw_check.specs.Following.{follow_entries, follow_front, follow_menu, follow_names, is_among, names_of, names_with};
 ghost use Rattle.fw_check.specs.Looking.{front_view};
 
 use crate::followed::Names;
@@ -59,6 +59,13 @@ impl<'v, 's> Followed<'v, 's> {
         ensures { map (λ n. n.items) result.now ≡ self.now.names }
     {
         self.names.all()
+    }
+
+    /// Whether a name is one of them.
+    pub(crate) fn has(&self, name: &[u8]) -> bool
+        ensures { result ≡ is_among self.now.names name.now }
+    {
+        self.names.has(name)
     }
 
     /// A copy of the name at this index, if there is one.

@@ -48,7 +48,7 @@ fn gather_item(
         (foreseen_names (rules_in lookups.now) (statement_of text.now item.entry))) }
 {
     match item {
-        Item::Call(words) => gather_call(lookups, text, words, names),
+        Item::Call(_, words) => gather_call(lookups, text, words, names),
         Item::Assignment { name, .. } => add_name(lookups.alloc, text, name, &mut names.given),
         Item::Binding { name, .. } => add_name(lookups.alloc, text, name, &mut names.given),
     }

@@ -1,22 +1,26 @@
 //! The commands of a script in the order of its text.
-ghost use Rattle.std.specs.Prelude.{◌≡◌, ℕ, List, ◌∷◌, ◌++◌, map, reverse, IsSome, IfOk, OnOk, IfSome, IfNone, []};
-ghost use Rattle.hush_syntax.specs.declared.nodes.NodeId.{NodeId};
-ghost use Rattle.hush_syntax.specs.Scripts.{subtree_at, tree_of};
+ghost use Rattle.std.specs.Prelude.{◌≡◌, ℕ, true, List, ◌∷◌, ◌++◌, map, reverse, IsSome, IfOk, OnOk, IfSome, IfNone, []};
+ghost use Rattle.hush_syntax.specs.Scripts.{source_of, subtree_at, tree_of};
 ghost use Rattle.fw_check.specs.declared.items.Item.{Item};
 ghost use Rattle.fw_check.specs.Statements.{statement_of, of_script};
-ghost use Rattle.fw_check.specs.Gathering.{HasParts, branch_parts, if_parts};
+ghost use Rattle.fw_check.specs.Gathering.{HasParts, branch_parts, if_parts, link_parts, list_parts, operator_of, part};
+ghost use Rattle.fw_check.specs.Settings.{in_loop, plain, shows_status};
+ghost use Rattle.fw_check.specs.declared.items.Part.{Part};
 
-use hush_syntax::{Branch, Link, Node, NodeId, Script, Word};
+use crate::settings::{Setting, shows_status};
+use hush_syntax::{Branch, Link, Node, NodeId, Operator, Script, Word};
 use std::alloc::{AllocError, Global};
 use std::marker::Model;
 
 /// A command of a script, by its words.
 #[derive(Clone, Copy, Debug)]
 pub(crate) enum Item<'s> {
-    /// A simple command. It has at least one word.
-    Call(&'s [Word]),
+    /// A simple command. It has at least one word, unless it is an empty body.
+    Call(Setting, &'s [Word]),
     /// `name=value`
     Assignment {
+        /// What is around it.
+        setting: Setting,
         /// The variable.
         name: Word,
         /// What follows the `=`.
@@ -24,6 +28,8 @@ pub(crate) enum Item<'s> {
     },
     /// The head of a `for`.
     Binding {
+        /// What is around it.
+        setting: Setting,
         /// The variable.
         name: Word,
         /// What follows `in`.
@@ -31,129 +37,183 @@ pub(crate) enum Item<'s> {
     },
 }
 
-/// The nodes of a script that are still to come, the next one on top.
+/// A node of a script, with what is around it.
+#[derive(Clone, Copy, Debug)]
+pub(crate) struct Part {
+    pub(crate) id: NodeId,
+    pub(crate) setting: Setting,
+}
+
+/// The parts of a script that are still to come, the next one on top.
 #[derive(Drop)]
 struct Waiting {
-    nodes: Vec<NodeId>,
+    parts: Vec<Part>,
 }
 
 impl Model for Waiting {
     ghost use Rattle.std.specs.Prelude.{List, reverse};
-    ghost use Rattle.hush_syntax.specs.declared.nodes.NodeId.{NodeId};
+    ghost use Rattle.fw_check.specs.declared.items.Part.{Part};
 
-    ghost Value = { List NodeId };
+    ghost Value = { List Part };
 
-    ghost view = { λ a. reverse a.nodes.items };
+    ghost view = { λ a. reverse a.parts.items };
 }
 
 impl Waiting {
-    /// No nodes. It allocates no memory.
+    /// No parts. It allocates no memory.
     fn new(alloc: Global) -> Waiting
         ensures { result ≡ [] }
     {
         Waiting {
-            nodes: Vec::new(alloc),
+            parts: Vec::new(alloc),
         }
     }
 
-    /// Puts a node on top.
-    fn push(&mut self, node: NodeId) -> Result<(), AllocError>
-        ensures { OnOk result (self.new ≡ node ∷ self.old) }
+    /// Puts a part on top.
+    fn push(&mut self, id: NodeId, setting: Setting) -> Result<(), AllocError>
+        ensures { OnOk result (self.new ≡ part id setting ∷ self.old) }
     {
-        self.nodes.push(node)?;
+        self.parts.push(Part { id, setting })?;
         Ok(())
     }
 
-    /// Takes the node on top, if there is one.
-    fn pop(&mut self) -> Option<NodeId>
-        ensures some { IfSome result (λ node. self.old ≡ node ∷ self.new) }
+    /// Takes the part on top, if there is one.
+    fn pop(&mut self) -> Option<Part>
+        ensures some { IfSome result (λ p. self.old ≡ p ∷ self.new) }
         ensures none { IfNone result (self.old ≡ []) }
     {
-        self.nodes.pop()
+        self.parts.pop()
     }
 
-    /// Puts nodes on top, the first one topmost.
-    fn push_all(&mut self, nodes: &[NodeId]) -> Result<(), AllocError>
-        ensures { OnOk result (self.new ≡ nodes.now ++ self.old) }
+    /// Puts the chains of a list on top, the first one topmost; `shows`: the text has a `$?`.
+    fn push_list(
+        &mut self,
+        shows: bool,
+        setting: Setting,
+        chains: &[NodeId],
+    ) -> Result<(), AllocError>
+        ensures { OnOk result (self.new ≡ list_parts shows setting true chains.now ++ self.old) }
     {
-        let mut left = nodes.len();
+        let mut left = chains.len();
         while left > 0 {
+            let is_last = left == chains.len();
             left -= 1;
-            self.push(nodes[left])?;
+            self.push(chains[left], setting.in_list(shows, left == 0, is_last))?;
         }
         Ok(())
     }
 
     /// Puts the commands of a chain on top, the first one topmost.
-    fn push_links(&mut self, links: &[Link]) -> Result<(), AllocError>
-        ensures { OnOk result (self.new ≡ map (λ link. link.command) links.now ++ self.old) }
+    fn push_links(&mut self, setting: Setting, links: &[Link]) -> Result<(), AllocError>
+        ensures { OnOk result (self.new ≡ link_parts setting (operator_of links.now) true links.now ++ self.old) }
     {
+        let first = operator_of(links);
         let mut left = links.len();
         while left > 0 {
+            let is_last = left == links.len();
             left -= 1;
-            self.push(links[left].command)?;
+            let link = links[left];
+            self.push(
+                link.command,
+                setting.in_chain(first, link.operator, left == 0, is_last),
+            )?;
         }
         Ok(())
     }
 
-    /// Puts the conditions and the bodies of branches on top, the first condition topmost.
-    fn push_branches(&mut self, branches: &[Branch]) -> Result<(), AllocError>
-        ensures { OnOk result
-            (self.new ≡ branch_parts branches.now ++ self.old) }
+    /// Puts the conditions and the bodies of branches on top, the first condition topmost; `bare`: no `else` is behind them.
+    fn push_branches(
+        &mut self,
+        setting: Setting,
+        bare: bool,
+        branches: &[Branch],
+    ) -> Result<(), AllocError>
+        ensures { OnOk result (self.new ≡ branch_parts setting bare true branches.now ++ self.old) }
     {
         let mut left = branches.len();
         while left > 0 {
             left -= 1;
-            self.push(branches[left].body)?;
-            self.push(branches[left].condition)?;
+            self.push(branches[left].body, Setting::plain(setting.asked))?;
+            self.push(branches[left].condition, setting.in_if(bare, left == 0))?;
         }
         Ok(())
     }
 }
 
-/// The commands of a script.
-pub(crate) fn items_of(alloc: Global, script: &Script) -> Result<Vec<Item<'_>>, AllocError>
-    ensures { IfOk result
-        (λ items. map (statement_of script.now.text) items.items ≡ of_script (tree_of script.now)) }
+/// The first operator of a chain.
+fn operator_of(links: &[Link]) -> Option<Operator>
+    ensures { result ≡ operator_of links.now }
 {
+    match links {
+        [_, second, ..] => second.operator,
+        _ => None,
+    }
+}
+
+/// The commands of a script; `asked`: its status is asked for.
+pub(crate) fn items_of(
+    alloc: Global,
+    script: &Script,
+    asked: bool,
+) -> Result<Vec<Item<'_>>, AllocError>
+    ensures { IfOk result (λ items. map (statement_of script.now.text) items.items
+        ≡ of_script (shows_status (source_of script.now)) asked (tree_of script.now)) }
+{
+    let shows = shows_status(script.source());
     let mut items = Vec::new(alloc);
     let mut waiting = Waiting::new(alloc);
     if let Some(root) = script.root() {
-        waiting.push(root)?;
+        waiting.push(root, Setting::beginning(asked))?;
     }
-    while let Some(id) = waiting.pop() {
-        gather(script, id, &mut waiting, &mut items)?;
+    while let Some(part) = waiting.pop() {
+        gather(script, shows, part, &mut waiting, &mut items)?;
     }
     Ok(items)
 }
 
-/// Appends the command that a node is or begins with, if there is one, and puts its other parts on the stack.
+/// Appends the command that a part is or begins with, if there is one, and puts its other parts on the stack.
 fn gather<'s>(
     script: &'s Script,
-    id: NodeId,
+    shows: bool,
+    part: Part,
     waiting: &mut Waiting,
     items: &mut Vec<Item<'s>>,
 ) -> Result<(), AllocError>
-    requires { IsSome (subtree_at script.now id) }
-    ensures { OnOk result ((more : List Item) × (ids : List NodeId) × (waiting.new ≡ ids ++ waiting.old)
+    requires { IsSome (subtree_at script.now part.id) }
+    ensures { OnOk result ((more : List Item) × (parts : List Part) × (waiting.new ≡ parts ++ waiting.old)
         × (items.new.items ≡ items.old.items ++ more)
-        × HasParts script.now.text (subtree_at script.now) id more ids) }
+        × HasParts script.now.text shows (subtree_at script.now) part more parts) }
 {
-    match script.node(id) {
-        Node::List(chains) => waiting.push_all(chains),
-        Node::Chain(links) => waiting.push_links(links),
+    let setting = part.setting;
+    match script.node(part.id) {
+        Node::List(chains) => waiting.push_list(shows, setting, chains),
+        Node::Chain(links) => waiting.push_links(setting, links),
         Node::If {
             branches,
             otherwise,
-        } => push_if(waiting, branches, otherwise),
+        } => push_if(waiting, setting, branches, otherwise),
         Node::For { name, words, body } => {
-            waiting.push(body)?;
-            push_item(items, Item::Binding { name, words })
+            waiting.push(body, setting.in_turn(shows))?;
+            push_item(
+                items,
+                Item::Binding {
+                    setting,
+                    name,
+                    words,
+                },
+            )
         }
-        Node::While { condition, body } => push_loop(waiting, condition, body),
-        Node::Until { condition, body } => push_loop(waiting, condition, body),
-        Node::Assign { name, value } => push_item(items, Item::Assignment { name, value }),
-        Node::Simple { words } => push_item(items, Item::Call(words)),
+        Node::While { condition, body } => push_loop(waiting, shows, setting, condition, body),
+        Node::Until { condition, body } => push_loop(waiting, shows, setting, condition, body),
+        Node::Assign { name, value } => push_item(
+            items,
+            Item::Assignment {
+                setting,
+                name,
+                value,
+            },
+        ),
+        Node::Simple { words } => push_item(items, Item::Call(setting, words)),
     }
 }
 
@@ -168,21 +228,31 @@ fn push_item<'s>(items: &mut Vec<Item<'s>>, item: Item<'s>) -> Result<(), AllocE
 /// Puts the parts of an `if` on the stack.
 fn push_if(
     waiting: &mut Waiting,
+    setting: Setting,
     branches: &[Branch],
     otherwise: Option<NodeId>,
 ) -> Result<(), AllocError>
-    ensures { OnOk result (waiting.new ≡ if_parts branches.now otherwise ++ waiting.old) }
+    ensures { OnOk result (waiting.new ≡ if_parts setting true branches.now otherwise ++ waiting.old) }
 {
-    if let Some(body) = otherwise {
-        waiting.push(body)?;
+    match otherwise {
+        Some(body) => {
+            waiting.push(body, Setting::plain(setting.asked))?;
+            waiting.push_branches(setting, false, branches)
+        }
+        None => waiting.push_branches(setting, true, branches),
     }
-    waiting.push_branches(branches)
 }
 
 /// Puts the condition and the body of a loop on the stack.
-fn push_loop(waiting: &mut Waiting, condition: NodeId, body: NodeId) -> Result<(), AllocError>
-    ensures { OnOk result (waiting.new ≡ condition ∷ body ∷ waiting.old) }
+fn push_loop(
+    waiting: &mut Waiting,
+    shows: bool,
+    setting: Setting,
+    condition: NodeId,
+    body: NodeId,
+) -> Result<(), AllocError>
+    ensures { OnOk result (waiting.new ≡ part condition (in_loop setting) ∷ part body (plain shows) ∷ waiting.old) }
 {
-    waiting.push(body)?;
-    waiting.push(condition)
+    waiting.push(body, Setting::plain(shows))?;
+    waiting.push(condition, setting.in_loop())
 }

@@ -1,11 +1,13 @@
 //! A check of boot scripts that runs nothing: what is wrong with scripts, or with those of an environment from some
 //! names on, as lines. docs/check.md states the rules.
 //!
-//! To read in this order: items, literals, name_set, substitutions, commands, rules, lookups, constants; lines, json_lines, findings,
-//! summary; operators, foreign, misuse, undefined_names, differences, statements, script_check; followed, sorted_names, menu,
-//! following, run_names, foreseen, gives, text_names; starts, reading, typed_values, visits; file_checks.
+//! To read in this order: settings, items, literals, name_set, substitutions, commands, rules, lookups, constants; lines, json_lines, findings,
+//! summary; operators, foreign, misuse, undefined_names, differences, statuses, command_names, run_targets, statements, script_check; followed, sorted_names, menu,
+//! following, run_names, foreseen, gives, text_names; starts, reading, asking, typed_values, visits; file_checks.
 #![tactic(auto)]
 
+mod asking;
+mod command_names;
 mod commands;
 mod constants;
 mod differences;
@@ -28,10 +30,13 @@ mod operators;
 mod reading;
 mod rules;
 mod run_names;
+mod run_targets;
 mod script_check;
+mod settings;
 mod sorted_names;
 mod starts;
 mod statements;
+mod statuses;
 mod substitutions;
 mod summary;
 mod text_names;

@@ -1,9 +1,10 @@
 //! Words without a substitution, as texts, and what others begin with.
-ghost use Rattle.std.specs.Prelude.{◌≡◌, IfOk, map, option_copied, option_map};
+ghost use Rattle.std.specs.Prelude.{◌≡◌, ℕ, List, IfOk, map, option_copied, option_map};
+ghost use Rattle.std.specs.List.{list_any};
 ghost use Rattle.hush_syntax.specs.Trees.{name_in};
 ghost use Rattle.hush_words.specs.Parts.{part_atoms, word_atoms};
 ghost use Rattle.hush_words.specs.Ranges.{Fits};
-ghost use Rattle.fw_check.specs.Literals.{front_of, is_called, is_word_of, literal_of, whole_of};
+ghost use Rattle.fw_check.specs.Literals.{front_of, is_called, is_mark, is_shown, is_word_of, literal_of, whole_of};
 ghost use Rattle.fw_check.specs.Looking.{front_view};
 
 use hush_calc::is_text;
@@ -85,6 +86,56 @@ pub(crate) fn name_in(alloc: Global, text: &Text, word: Word) -> Result<Vec<u8>,
     match literal(alloc, text, word)? {
         Some(name) => Ok(name),
         None => Ok(Vec::new(alloc)),
+    }
+}
+
+/// Whether a word has a `$?`.
+pub(crate) fn has_status(text: &Text, word: Word) -> bool
+    ensures { result ≡ list_any is_shown (word_atoms text.now word) }
+{
+    let mut left = text.parts(word);
+    while let Some(part) = left.next_part() {
+        if is_status(part) {
+            return true;
+        }
+    }
+    false
+}
+
+fn is_status(part: Part) -> bool
+    ensures { (source : List ℕ) → result ≡ list_any is_shown (part_atoms source part) }
+{
+    match part {
+        Part::Status(_) => true,
+        Part::Plain(_) => false,
+        Part::Quoted(_) => false,
+        Part::Mark => false,
+        Part::Value(_, _) => false,
+    }
+}
+
+/// Whether a word has quotes.
+pub(crate) fn has_mark(text: &Text, word: Word) -> bool
+    ensures { result ≡ list_any is_mark (word_atoms text.now word) }
+{
+    let mut left = text.parts(word);
+    while let Some(part) = left.next_part() {
+        if is_mark(part) {
+            return true;
+        }
+    }
+    false
+}
+
+fn is_mark(part: Part) -> bool
+    ensures { (source : List ℕ) → result ≡ list_any is_mark (part_atoms source part) }
+{
+    match part {
+        Part::Mark => true,
+        Part::Plain(_) => false,
+        Part::Quoted(_) => false,
+        Part::Value(_, _) => false,
+        Part::Status(_) => false,
     }
 }
 

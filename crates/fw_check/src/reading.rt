@@ -2,12 +2,14 @@
 ghost use Rattle.std.specs.Prelude.{◌≡◌, IfOk, OnOk, map};
 ghost use Rattle.std.specs.List.{flat_map};
 ghost use Rattle.fw_check.specs.Called.{in_answers, in_reply};
-ghost use Rattle.fw_check.specs.Checking.{AreVisited, in_all, known_after, script_in};
+ghost use Rattle.fw_check.specs.Checking.{AreVisited, follow_texts, in_all, known_after, script_in};
+ghost use Rattle.fw_check.specs.FileChecks.{scripts_view, script_texts};
 ghost use Rattle.fw_check.specs.Following.{follow_fronts};
 ghost use Rattle.fw_check.specs.Looking.{hardware_in, rules_in};
 ghost use Rattle.fw_check.specs.NameSets.{set_of, with_all};
 ghost use Rattle.fw_check.specs.Naming.{foreseen_in, given_in, run_in};
 
+use crate::file_checks::FileScript;
 use crate::following::Followed;
 use crate::lookups::Lookups;
 use crate::menu::script;
@@ -17,26 +19,48 @@ use envvars_core::Vars;
 use hush_commands::{Reply, Rule};
 use std::alloc::{AllocError, Global};
 
-/// Follows what the texts run that answer calls, what the scripts of these names run, and what theirs run. The answer is
-/// which names all these texts and scripts give and foresee; those that the board's own code sets are given.
+/// Follows what the texts run that answer calls, what these of files run, what the scripts of these names run, and what theirs
+/// run. The answer is which names all these texts and scripts give and foresee; those that the board's own code sets are given.
 pub(crate) fn read_all(
     lookups: &Lookups<'_>,
     vars: &Vars,
+    scripts: &[FileScript<'_>],
     names: &mut Followed<'_, '_>,
 ) -> Result<ScriptNames, AllocError>
     requires { names.old.env ≡ vars.now.env }
     ensures visited { OnOk result (AreVisited (rules_in lookups.now)
-        (follow_fronts names.old (in_answers (run_in (rules_in lookups.now)) (hardware_in lookups.now))) 0 names.new.names) }
-    ensures given { IfOk result
-        (λ gathered. set_of gathered.given ≡ (known_after (rules_in lookups.now) vars.now.env names.new.names).given) }
-    ensures foreseen { IfOk result
-        (λ gathered. set_of gathered.foreseen ≡ (known_after (rules_in lookups.now) vars.now.env names.new.names).foreseen) }
+        (follow_texts (rules_in lookups.now) (script_texts (scripts_view scripts.now)) names.old) 0 names.new.names) }
+    ensures given { IfOk result (λ gathered. set_of gathered.given
+        ≡ (known_after (rules_in lookups.now) vars.now.env (script_texts (scripts_view scripts.now)) names.new.names).given) }
+    ensures foreseen { IfOk result (λ gathered. set_of gathered.foreseen
+        ≡ (known_after (rules_in lookups.now) vars.now.env (script_texts (scripts_view scripts.now)) names.new.names).foreseen) }
 {
     let mut gathered = ScriptNames::new(lookups.alloc);
     add_known(lookups.alloc, lookups.rules.known, &mut gathered.given)?;
     follow_answers(lookups, names, &mut gathered)?;
+    follow_files(lookups, scripts, names, &mut gathered)?;
     follow_all(lookups, vars, names, &mut gathered)?;
     Ok(gathered)
+}
+
+/// Follows what the scripts of files run, and adds the names that they give and foresee.
+fn follow_files(
+    lookups: &Lookups<'_>,
+    scripts: &[FileScript<'_>],
+    names: &mut Followed<'_, '_>,
+    gathered: &mut ScriptNames,
+) -> Result<(), AllocError>
+    ensures names { OnOk result (names.new
+        ≡ follow_fronts names.old (flat_map (run_in (rules_in lookups.now)) (script_texts (scripts_view scripts.now)))) }
+    ensures given { OnOk result (set_of gathered.new.given ≡ with_all (set_of gathered.old.given)
+        (flat_map (given_in (rules_in lookups.now)) (script_texts (scripts_view scripts.now)))) }
+    ensures foreseen { OnOk result (set_of gathered.new.foreseen ≡ with_all (set_of gathered.old.foreseen)
+        (flat_map (foreseen_in (rules_in lookups.now)) (script_texts (scripts_view scripts.now)))) }
+{
+    for script in scripts {
+        follow_text(lookups, &script.text, names, gathered)?;
+    }
+    Ok(())
 }
 
 /// Adds the names that the board's own code sets.

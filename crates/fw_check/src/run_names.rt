@@ -42,7 +42,7 @@ fn follow_item(
         (names.new ≡ follow_fronts names.old (run_fronts (rules_in lookups.now) (statement_of text.now item.entry))) }
 {
     match item {
-        Item::Call(words) => follow_call(lookups, text, words, names),
+        Item::Call(_, words) => follow_call(lookups, text, words, names),
         Item::Assignment { .. } => Ok(()),
         Item::Binding { .. } => Ok(()),
     }
@@ -69,7 +69,7 @@ fn follow_call(
 }
 
 /// Follows what these words name.
-fn follow_words(
+pub(crate) fn follow_words(
     alloc: Global,
     text: &Text,
     words: &[Word],

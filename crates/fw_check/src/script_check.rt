@@ -132,35 +132,37 @@ pub(crate) fn lacks_memory() -> ToolEnd
     }
 }
 
-/// Continues a report with what is found in a script: what that is, and its text.
+/// Continues a report with what is found in a script: what that is, whether its status is asked for, and its text.
 pub(crate) fn check_script<'c>(
     lookups: &Lookups<'_>,
     report: Report<'c>,
     subject: Subject<'_>,
+    asked: bool,
     text: &[u8],
 ) -> Result<Report<'c>, AllocError>
-    ensures { IfOk result (λ after. GoesOn (known_in lookups.now) (rules_in lookups.now) (subject_view subject.entry) text.now
+    ensures { IfOk result (λ after. GoesOn (known_in lookups.now) (rules_in lookups.now) (subject_view subject.entry) asked text.now
         report.entry after) }
 {
     let mut so_far = report;
     so_far.add_script();
     let mut found = Findings::new(so_far, subject, text);
     found.add_return()?;
-    check_reading(lookups, text, &mut found)?;
+    check_reading(lookups, asked, text, &mut found)?;
     Ok(found.report())
 }
 
 /// Adds what is found in what a text is read as.
 fn check_reading(
     lookups: &Lookups<'_>,
+    asked: bool,
     text: &[u8],
     found: &mut Findings<'_, '_>,
 ) -> Result<(), AllocError>
-    ensures { OnOk result (Reads (known_in lookups.now) (rules_in lookups.now) text.now found.old found.new) }
+    ensures { OnOk result (Reads (known_in lookups.now) (rules_in lookups.now) asked text.now found.old found.new) }
 {
     let source = Vec::from_slice(lookups.alloc, text)?;
     match Script::parse_in(lookups.alloc, source, bodies_of(lookups.rules.shell)) {
-        Ok(script) => check_parsed(lookups, &script, found),
+        Ok(script) => check_parsed(lookups, asked, &script, found),
         Err(fault) => add_fault(fault, found),
     }
 }
@@ -168,14 +170,15 @@ fn check_reading(
 /// Adds what is found in a text that is a script.
 fn check_parsed(
     lookups: &Lookups<'_>,
+    asked: bool,
     script: &Script,
     found: &mut Findings<'_, '_>,
 ) -> Result<(), AllocError>
     requires { SpellsIn (bodies_of lookups.now.rules.shell) (tree_of script.now) (source_of script.now) }
-    ensures { OnOk result (ReadsItems (known_in lookups.now) (rules_in lookups.now) (source_of script.now)
+    ensures { OnOk result (ReadsItems (known_in lookups.now) (rules_in lookups.now) asked (source_of script.now)
         found.old found.new) }
 {
-    let items = items_of(lookups.alloc, script)?;
+    let items = items_of(lookups.alloc, script, asked)?;
     check_items(lookups, script.text(), &items, found)
 }
 

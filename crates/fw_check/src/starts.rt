@@ -8,16 +8,18 @@ use std::alloc::{AllocError, Global};
 /// The names that a check begins with first if it is given none.
 const USUAL: [&[u8]; 3] = [b"bootcmd", b"altbootcmd", b"preboot"];
 
-/// Follows what a check begins with: these names, without any the usual ones and the entries of a boot menu.
+/// Follows what a check begins with: these names; without any the usual ones and the entries of a boot menu, if the environment is
+/// checked alone.
 pub(crate) fn follow_first(
     alloc: Global,
+    alone: bool,
     names: &[&[u8]],
     followed: &mut Followed<'_, '_>,
 ) -> Result<(), AllocError>
     ensures { OnOk result
-        (followed.new ≡ begin_from followed.old (map (λ n. n.now) names.now)) }
+        (followed.new ≡ begin_from followed.old alone (map (λ n. n.now) names.now)) }
 {
-    if names.is_empty() {
+    if alone && names.is_empty() {
         follow_names(alloc, &USUAL, followed)?;
         followed.follow_entries(alloc)
     } else {

@@ -1,12 +1,13 @@
 //! The names that the script of a text runs, gives to something and foresees.
-ghost use Rattle.std.specs.Prelude.{◌≡◌, ◌≢◌, OnOk};
-ghost use Rattle.hush_syntax.specs.Scripts.{tree_of};
+ghost use Rattle.std.specs.Prelude.{◌≡◌, false, ◌≢◌, OnOk};
+ghost use Rattle.hush_syntax.specs.Scripts.{source_of, tree_of};
 ghost use Rattle.hush_syntax.specs.declared.syntax_fault.FaultKind.TheVariants as kind;
 ghost use Rattle.std.specs.List.{flat_map};
 ghost use Rattle.fw_check.specs.Following.{follow_fronts};
 ghost use Rattle.fw_check.specs.Looking.{rules_in};
 ghost use Rattle.fw_check.specs.NameSets.{set_of, with_all};
 ghost use Rattle.fw_check.specs.Naming.{foreseen_in, foreseen_names, given_in, given_names, run_fronts, run_in};
+ghost use Rattle.fw_check.specs.Settings.{shows_status};
 ghost use Rattle.fw_check.specs.Statements.{of_script};
 
 use crate::following::Followed;
@@ -48,19 +49,19 @@ fn follow_script(
     gathered: &mut ScriptNames,
 ) -> Result<(), AllocError>
     ensures names { OnOk result (names.new ≡ follow_fronts names.old
-        (flat_map (run_fronts (rules_in lookups.now)) (of_script (tree_of script.now)))) }
+        (flat_map (run_fronts (rules_in lookups.now)) (of_script (shows_status (source_of script.now)) false (tree_of script.now)))) }
     ensures given { OnOk result (set_of gathered.new.given ≡ with_all (set_of gathered.old.given)
-        (flat_map (given_names (rules_in lookups.now)) (of_script (tree_of script.now)))) }
+        (flat_map (given_names (rules_in lookups.now)) (of_script (shows_status (source_of script.now)) false (tree_of script.now)))) }
     ensures foreseen { OnOk result (set_of gathered.new.foreseen ≡ with_all (set_of gathered.old.foreseen)
-        (flat_map (foreseen_names (rules_in lookups.now)) (of_script (tree_of script.now)))) }
+        (flat_map (foreseen_names (rules_in lookups.now)) (of_script (shows_status (source_of script.now)) false (tree_of script.now)))) }
 {
-    let items = items_of(lookups.alloc, script)?;
+    let items = items_of(lookups.alloc, script, false)?;
     follow_items(lookups, script.text(), &items, names)?;
     gather_items(lookups, script.text(), &items, gathered)
 }
 
 /// Nothing is added if a text isn't a script, unless memory ran out.
-fn no_script(fault: SyntaxFault) -> Result<(), AllocError>
+pub(crate) fn no_script(fault: SyntaxFault) -> Result<(), AllocError>
     ensures { OnOk result (fault.kind ≢ kind.Memory) }
 {
     match fault.kind {

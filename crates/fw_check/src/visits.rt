@@ -1,11 +1,15 @@
 //! What is found in the scripts of an environment.
 ghost use Rattle.std.specs.Prelude.{◌≡◌, ◌⊎◌, IfOk, OnOk, map};
-ghost use Rattle.fw_check.specs.Checking.{Checks, ComesTo, LacksMemory, PrintsReport, Reports, first_report, follow_first, script_in, with_given, with_none, with_types};
+ghost use Rattle.fw_check.specs.Checking.{LacksMemory, PrintsReport, Reports, first_report, script_in, with_given, with_none, with_whole};
+ghost use Rattle.fw_check.specs.FileChecks.{Checks, ComesTo, follow_first, is_alone, scripts_view};
 ghost use Rattle.finding_kinds.specs.Choices.{choice_view};
+ghost use Rattle.fw_check.specs.Following.{is_among};
 ghost use Rattle.fw_check.specs.Lines.{Variable};
 ghost use Rattle.fw_check.specs.Looking.{known_in, rules_in, rules_view};
 ghost use Rattle.fw_check.specs.Reports.{GoesOn};
 
+use crate::asking::follow_asked;
+use crate::file_checks::{FileScript, check_scripts};
 use crate::findings::Report;
 use crate::following::Followed;
 use crate::lines::Subject;
@@ -32,11 +36,12 @@ const NONE: &[u8] = b"there is no script to look at";
 /// Prints on `output` what is found in the scripts of an environment by these rules: in those of the given names, without
 /// names in those of `bootcmd`, `altbootcmd`, `preboot` and the entries of a boot menu, and in each that one of them, or
 /// a text that answers a call, runs: by an argument without a substitution, or by one that begins as its name does. Each
-/// is checked once, in the order in which they are met. With hardware a command that isn't there is an error. So is a
+/// is checked once, in the order in which they are met. If there are scripts of files, these are checked before, as what the environment's
+/// scripts are run by, and begin the check in place of the usual names. With hardware a command that isn't there is an error. So is a
 /// `run` of a name that neither the environment has nor one of these scripts and texts sets, tests or asks for with `env
 /// exists`. A substitution of a name that neither the environment, the board's own code nor one of these defines is a
-/// warning. Then follow an error if there was no script, and a line for each variable of the environment whose value
-/// doesn't have the type that `.flags` gives it. On `errors` it prints how many scripts, errors and warnings there were.
+/// warning. Without files then follow an error if there was no script, and a line for each variable of the environment whose
+/// value doesn't have the type that `.flags` gives it. On `errors` it prints how many scripts, errors and warnings there were.
 /// The status is 1 if something was found that counts, else 0. docs/check.md has the texts.
 ///
 /// At the fault `Memory` nothing is printed.
@@ -46,43 +51,57 @@ pub fn check<W: Write, E: Write>(
     vars: &Vars,
     choice: Choice<'_>,
     names: &[&[u8]],
+    scripts: &[FileScript<'_>],
     output: &mut W,
     errors: &mut E,
 ) -> ToolEnd
     ensures { Checks (rules_view rules.entry) vars.now.env (choice_view choice.entry) (map (λ n. n.now) names.now)
+        (scripts_view scripts.now)
         (record { output = W.contents output.old; errors = E.contents errors.old })
         (record { output = W.contents output.new; errors = E.contents errors.new }) result }
 {
-    match check_all(alloc, rules, vars, choice, names) {
+    match check_all(alloc, rules, vars, choice, names, scripts) {
         Err(_) => lacks_memory(),
-        Ok(report) => print_typed(alloc, vars, report, output, errors),
+        Ok(report) => print_whole(alloc, vars, is_alone(scripts), report, output, errors),
     }
 }
 
-/// Prints a report, and after it what is found in the environment as a whole.
-fn print_typed<W: Write, E: Write>(
+/// Whether the environment is checked alone.
+fn is_alone(scripts: &[FileScript<'_>]) -> bool
+    ensures { result ≡ is_alone (scripts_view scripts.now) }
+{
+    scripts.is_empty()
+}
+
+/// Prints a report, and after it what is found in the environment as a whole, if that is checked alone.
+fn print_whole<W: Write, E: Write>(
     alloc: Global,
     vars: &Vars,
+    alone: bool,
     report: Report<'_>,
     output: &mut W,
     errors: &mut E,
 ) -> ToolEnd
     ensures { PrintsReport (record { output = W.contents output.old; errors = E.contents errors.old })
         (record { output = W.contents output.new; errors = E.contents errors.new })
-        (with_types vars.now.env (with_none report.entry)) result
+        (with_whole alone vars.now.env report.entry) result
         ⊎ LacksMemory (record { output = W.contents output.old; errors = E.contents errors.old })
         (record { output = W.contents output.new; errors = E.contents errors.new }) result }
 {
-    match report_whole(vars, report) {
+    match report_whole(vars, alone, report) {
         Err(_) => lacks_memory(),
         Ok(report) => print_report(alloc, &report, output, errors),
     }
 }
 
-/// Continues a report with a line if there was no script, and one for each variable whose value doesn't have its type.
-fn report_whole<'c>(vars: &Vars, report: Report<'c>) -> Result<Report<'c>, AllocError>
-    ensures { IfOk result (λ after. after ≡ with_types vars.now.env (with_none report.entry)) }
+/// Continues a report with a line if there was no script, and one for each variable whose value doesn't have its type, if the
+/// environment is checked alone.
+fn report_whole<'c>(vars: &Vars, alone: bool, report: Report<'c>) -> Result<Report<'c>, AllocError>
+    ensures { IfOk result (λ after. after ≡ with_whole alone vars.now.env report.entry) }
 {
+    if !alone {
+        return Ok(report);
+    }
     let mut so_far = report;
     report_none(&mut so_far)?;
     check_types(vars, so_far)
@@ -98,28 +117,30 @@ fn report_none(report: &mut Report<'_>) -> Result<(), AllocError>
     report.add_alone(Subject::Whole, FindingKind::NoScript, NONE)
 }
 
-/// The report on the scripts from these names on.
+/// The report on the scripts of files, and on those from these names on.
 fn check_all<'c, 'k>(
     alloc: Global,
     rules: Rules<'k>,
     vars: &'k Vars,
     choice: Choice<'c>,
     names: &[&[u8]],
+    scripts: &[FileScript<'_>],
 ) -> Result<Report<'c>, AllocError>
     ensures { IfOk result (λ report. ComesTo (rules_view rules.entry)
-        (follow_first (rules_view rules.entry) vars.now.env (map (λ n. n.now) names.now))
+        (follow_first (rules_view rules.entry) vars.now.env (map (λ n. n.now) names.now) (scripts_view scripts.now))
+        (scripts_view scripts.now)
         (first_report (choice_view choice.entry) vars.now.env (map (λ n. n.now) names.now)) report) }
 {
     let report = report_given(alloc, choice, vars, names)?;
     let sorted = SortedNames::of(alloc, vars)?;
     let mut visited = Followed::new(alloc, vars, &sorted);
-    follow_first(alloc, names, &mut visited)?;
+    follow_first(alloc, is_alone(scripts), names, &mut visited)?;
     let names_alone = Lookups {
         alloc,
         rules,
         variables: None,
     };
-    let gathered = read_all(&names_alone, vars, &mut visited)?;
+    let gathered = read_all(&names_alone, vars, scripts, &mut visited)?;
     let lookups = Lookups {
         variables: Some(Variables {
             vars,
@@ -127,7 +148,10 @@ fn check_all<'c, 'k>(
         }),
         ..names_alone
     };
-    report_all(&lookups, vars, visited.all(), report)
+    let mut asked = Followed::new(alloc, vars, &sorted);
+    follow_asked(&names_alone, vars, scripts, visited.all(), &mut asked)?;
+    let after = check_scripts(&lookups, scripts, report)?;
+    report_all(&lookups, vars, &asked, visited.all(), after)
 }
 
 /// A line for each given name that isn't defined.
@@ -157,33 +181,35 @@ fn report_name(vars: &Vars, name: &[u8], report: &mut Report<'_>) -> Result<(), 
     report.add_alone(Subject::Variable(name), FindingKind::NoVariable, UNDEFINED)
 }
 
-/// Continues a report with what is found in the scripts of these names.
+/// Continues a report with what is found in the scripts of these names; the statuses of those of `asked` are asked for.
 fn report_all<'c>(
     lookups: &Lookups<'_>,
     vars: &Vars,
+    asked: &Followed<'_, '_>,
     names: &[Vec<u8>],
     report: Report<'c>,
 ) -> Result<Report<'c>, AllocError>
     ensures { IfOk result (λ final. Reports vars.now.env (known_in lookups.now) (rules_in lookups.now)
-        (map (λ n. n.items) names.now) report.entry final) }
+        (is_among asked.now.names) (map (λ n. n.items) names.now) report.entry final) }
 {
     let mut so_far = report;
     for name in names {
-        so_far = report_variable(lookups, vars, name, so_far)?;
+        so_far = report_variable(lookups, vars, asked.has(name), name, so_far)?;
     }
     Ok(so_far)
 }
 
-/// Continues a report with what is found in the script of a variable.
+/// Continues a report with what is found in the script of a variable, whose status is asked for or isn't.
 fn report_variable<'c>(
     lookups: &Lookups<'_>,
     vars: &Vars,
+    asked: bool,
     name: &[u8],
     report: Report<'c>,
 ) -> Result<Report<'c>, AllocError>
     ensures { IfOk result (λ after. GoesOn (known_in lookups.now) (rules_in lookups.now)
-        (Variable name.now) (script_in vars.now.env name.now) report.entry after) }
+        (Variable name.now) asked (script_in vars.now.env name.now) report.entry after) }
 {
     let text = script(lookups.alloc, vars, name)?;
-    check_script(lookups, report, Subject::Variable(name), &text)
+    check_script(lookups, report, Subject::Variable(name), asked, &text)
 }

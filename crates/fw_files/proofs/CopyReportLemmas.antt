@@ -1,5 +1,5 @@
 -- What `status` prints, put together, and its status.
-use Rattle.std.proofs.Common.{◌≡◌, ◌≤◌, ℕ, List, length, Option, Some, None, inl, inr, refl, sym, ap, ◌∙◌, option_map, arith}
+use Rattle.std.proofs.Common.{◌≡◌, ◌≤◌, ℕ, List, length, Option, Some, None, inl, inr, refl, sym, ap, ◌∙◌, option_map, subst, arith}
 use Rattle.std.specs.Prelude.{MatchOption, Ok, is_some, string_bytes}
 use Rattle.std.specs.Io.KnownBytes.{Appends}
 use Rattle.envcfg_core.specs.Config.{config_of, config_view, place_view}
@@ -21,6 +21,8 @@ use Rattle.fw_engines.specs.declared.tool_end.StreamFault.{StreamFault}
 use Rattle.fw_engines.specs.declared.tool_end.StreamFault.TheVariants.{Write}
 use Rattle.fw_files.specs.CopyReport.{Found, IsSurveyBy, IsSurveyIn, IsSurveyOf, PrintsReport, ReportsOn, ReportsSubject, device_found, device_named, found_in, found_view}
 use Rattle.fw_arguments.specs.Report.{Copies, File, Report, Subject}
+use Rattle.fw_files.specs.FileTexts.{Holds}
+use Rattle.fw_files.specs.Files.{IsTextAt}
 use Rattle.fw_files.specs.Source.{IsSourceOf}
 use Rattle.fw_files.specs.declared.copies.ReadCopy.{ReadCopy}
 use Rattle.fw_files.specs.declared.source.Source.{Source}
@@ -49,16 +51,16 @@ file_small (Some single) flagged order path bytes = omega arith
 file_small None (Some flagged) order path bytes = omega arith
 file_small None None order path bytes = omega arith
 
-subject_small : (order : Order) (subject : Subject) (old new : Writers) (status : ℕ) → ReportsSubject order subject old new status → status ≤ 1
-subject_small order (Copies path) old new status (survey, is, prints) =
+subject_small : (holds : Holds) (order : Order) (subject : Subject) (old new : Writers) (status : ℕ) → ReportsSubject holds order subject old new status → status ≤ 1
+subject_small holds order (Copies path) old new status (survey, is, prints) =
     report_small (status_of survey) old new status (choice_small (chosen_in survey.geometry survey.first survey.second)) prints
-subject_small order (File path) old new status (bytes, prints) =
+subject_small holds order (File path) old new status (bytes, held, prints) =
     report_small (file_status_of order path bytes) old new status
     (file_small (good_as bytes (record { layout = Single; size = length bytes; order = order })) (good_as bytes (record { layout = Redundant; size = length bytes; order = order })) order path bytes) prints
 
-pub reports_small : (report : Report) (old new : Writers) (status : ℕ) → ReportsOn report old new status → status ≤ 1
-reports_small report old new status (inl stopped) = omega (arith, stopped.1)
-reports_small report old new status (inr (waited, has, reports)) = subject_small report.order report.subject _ new status reports
+pub reports_small : (holds : Holds) (report : Report) (old new : Writers) (status : ℕ) → ReportsOn holds report old new status → status ≤ 1
+reports_small holds report old new status (inl stopped) = omega (arith, stopped.1)
+reports_small holds report old new status (inr (waited, has, reports)) = subject_small holds report.order report.subject _ new status reports
 
 -- ---- a survey
 
@@ -71,9 +73,9 @@ devices (Some place) (Some copy) (Some found) is same = ap (option_map (λ (f : 
 devices None (Some copy) found is same = absurd cc
 devices (Some place) None found is same = absurd cc
 
-pub surveyed : (order : Order) (path text : List ℕ) (config : Config) (source : Source) (survey : Survey) →
-    config_of text ≡ Ok (config_view config) → IsSourceOf order config source → IsSurveyIn path text source survey → IsSurveyOf order path survey
-surveyed order path text config source survey reads is has =
+pub surveyed : (holds : Holds) (order : Order) (path text : List ℕ) (config : Config) (source : Source) (survey : Survey) → IsTextAt holds path text →
+    config_of text ≡ Ok (config_view config) → IsSourceOf order config source → IsSurveyIn path text source survey → IsSurveyOf holds order path survey
+surveyed holds order path text config source survey held reads is has =
     let by : IsSurveyBy order (config_view config) survey = record {
       geometry = has.geometry ∙ is.geometry;
       first = ap (λ (f : Found). f.0) has.first ∙ ap (λ (c : Config). string_bytes c.first.device) is.config;
@@ -81,4 +83,4 @@ surveyed order path text config source survey reads is has =
           devices source.config.second source.second survey.second has.second (is.second ∙ ap (λ (c : Config). is_some c.second) (sym is.config))
           ∙ ap (λ (c : Config). option_map device_named (option_map place_view c.second)) is.config;
     } in
-    (has.path, (config_view config, ap config_of has.config ∙ reads, by))
+    (has.path, subst (λ t. IsTextAt holds path t) (sym has.config) held, (config_view config, ap config_of has.config ∙ reads, by))

@@ -11,6 +11,7 @@ use Rattle.envvars_core.specs.Variables.{Contents}
 use Rattle.fw_arguments.specs.Calls.{Defaults}
 use Rattle.fw_files.specs.Misread.{IsMisread, SaysMisread, Spares}
 use Rattle.fw_files.specs.Opening.{IsAccepted, IsOpened, IsOpenedWith, OpensOver}
+use Rattle.fw_files.specs.FileTexts.{Holds}
 use Rattle.fw_files.specs.Said.{SaysSome}
 use Rattle.fw_arguments.specs.GivenTexts.{is_plain}
 use Rattle.fw_files.specs.Source.{IsFound, IsTaken, lacks_copy, second_bytes, warned, without_plain}
@@ -22,22 +23,22 @@ abbrev pub SparesIn : Bool → Choice → Source → Type 0
 SparesIn spares current source = Spares current spares source.geometry source.first.bytes.items (second_bytes source.second)
 
 -- the session that was accepted is the one that was opened
-pub accepted_is : (o : Option Held) (source : Source) (asked : Defaults) (spares : Bool) (session : Held) (a b : Option (List ℕ)) → OpensOver source asked session →
+pub accepted_is : (holds : Holds) (o : Option Held) (source : Source) (asked : Defaults) (spares : Bool) (session : Held) (a b : Option (List ℕ)) → OpensOver holds source asked session →
     MatchOption o (SaysSome a b) (λ s. (s ≡ session) × IsAccepted asked session a b × SparesIn spares session.now.current source) →
-    MatchOption o (SaysSome a b) (λ s. IsOpenedWith source asked spares s a b)
-accepted_is None source asked spares session a b opens p = p
-accepted_is (Some s) source asked spares session a b opens p =
-    subst (λ h. IsOpenedWith source asked spares h a b) (sym p.0) (record { opens = opens; accepted = p.1; spared = p.2 })
+    MatchOption o (SaysSome a b) (λ s. IsOpenedWith holds source asked spares s a b)
+accepted_is holds None source asked spares session a b opens p = p
+accepted_is holds (Some s) source asked spares session a b opens p =
+    subst (λ h. IsOpenedWith holds source asked spares h a b) (sym p.0) (record { opens = opens; accepted = p.1; spared = p.2 })
 
 -- ---- a text of plain lines
 
 -- the session with no default environment stays, if a copy is good
-stays : (source : Source) (asked : Defaults) (spares : Bool) (session : Held) (none : Contents) (a : Option (List ℕ)) → is_plain asked.form ≡ true →
+stays : (holds : Holds) (source : Source) (asked : Defaults) (spares : Bool) (session : Held) (none : Contents) (a : Option (List ℕ)) → is_plain asked.form ≡ true →
     none ≡ record { env = env.empty; room = room_of source.geometry } →
     session ≡ opened source.geometry source.first.bytes.items (second_bytes source.second) none →
     IsTaken session.now.current asked (record asked { path = None }) → lacks_copy (record asked { path = None }) session.now.current ≡ false →
-    warned asked.whole session.now.current ≡ [] → SparesIn spares session.now.current source → IsOpened source asked spares session a a
-stays source asked spares session none a plain is opens taken lacks warns spared = (
+    warned asked.whole session.now.current ≡ [] → SparesIn spares session.now.current source → IsOpened holds source asked spares session a a
+stays holds source asked spares session none a plain is opens taken lacks warns spared = (
   record asked { path = None },
   taken,
   record {
@@ -50,11 +51,11 @@ stays source asked spares session none a plain is opens taken lacks warns spared
 plain_taken : (asked : Defaults) → is_plain asked.form ≡ true → ◌≡◌ {A = Defaults} (record asked { path = None }) (without_plain asked)
 plain_taken asked plain = ap (λ (b : Bool). let c : Defaults = if b then record asked { path = None } else asked in c) (sym plain)
 
-pub first_stays : (source : Source) (asked : Defaults) (spares : Bool) (session : Held) (none : Contents) (a : Option (List ℕ)) → is_plain asked.form ≡ true →
+pub first_stays : (holds : Holds) (source : Source) (asked : Defaults) (spares : Bool) (session : Held) (none : Contents) (a : Option (List ℕ)) → is_plain asked.form ≡ true →
     none ≡ record { env = env.empty; room = room_of source.geometry } →
-    session ≡ opened source.geometry source.first.bytes.items (second_bytes source.second) none → session.now.current ≡ First → IsOpened source asked spares session a a
-first_stays source asked spares session none a plain is opens current =
-    stays source asked spares session none a plain is opens
+    session ≡ opened source.geometry source.first.bytes.items (second_bytes source.second) none → session.now.current ≡ First → IsOpened holds source asked spares session a a
+first_stays holds source asked spares session none a plain is opens current =
+    stays holds source asked spares session none a plain is opens
     (subst (λ c. IsTaken c asked (record asked { path = None })) (sym current) (plain_taken asked plain))
     (ap (lacks_copy (record asked { path = None })) current)
     (ap (warned asked.whole) current ∙ by_whole asked.whole)
@@ -64,11 +65,11 @@ first_stays source asked spares session none a plain is opens current =
     by_whole true = refl
     by_whole false = refl
 
-pub second_stays : (source : Source) (asked : Defaults) (spares : Bool) (session : Held) (none : Contents) (a : Option (List ℕ)) → is_plain asked.form ≡ true →
+pub second_stays : (holds : Holds) (source : Source) (asked : Defaults) (spares : Bool) (session : Held) (none : Contents) (a : Option (List ℕ)) → is_plain asked.form ≡ true →
     none ≡ record { env = env.empty; room = room_of source.geometry } →
-    session ≡ opened source.geometry source.first.bytes.items (second_bytes source.second) none → session.now.current ≡ Second → IsOpened source asked spares session a a
-second_stays source asked spares session none a plain is opens current =
-    stays source asked spares session none a plain is opens
+    session ≡ opened source.geometry source.first.bytes.items (second_bytes source.second) none → session.now.current ≡ Second → IsOpened holds source asked spares session a a
+second_stays holds source asked spares session none a plain is opens current =
+    stays holds source asked spares session none a plain is opens
     (subst (λ c. IsTaken c asked (record asked { path = None })) (sym current) (plain_taken asked plain))
     (ap (lacks_copy (record asked { path = None })) current)
     (ap (warned asked.whole) current ∙ by_whole asked.whole)
@@ -79,20 +80,20 @@ second_stays source asked spares session none a plain is opens current =
     by_whole false = refl
 
 -- the text is taken if none is good, over the same copies
-pub taken_then : (o : Option Held) (source : Source) (asked found : Defaults) (spares : Bool) (session : Held) (none : Contents) (a b : Option (List ℕ)) →
+pub taken_then : (holds : Holds) (o : Option Held) (source : Source) (asked found : Defaults) (spares : Bool) (session : Held) (none : Contents) (a b : Option (List ℕ)) →
     session ≡ opened source.geometry source.first.bytes.items (second_bytes source.second) none → session.now.current ≡ Neither → IsFound asked found →
-    MatchOption o (SaysSome a b) (λ s. IsOpenedWith source found spares s a b) → MatchOption o (SaysSome a b) (λ s. IsOpened source asked spares s a b)
-taken_then None source asked found spares session none a b opens current is p = p
-taken_then (Some s) source asked found spares session none a b opens current is p =
+    MatchOption o (SaysSome a b) (λ s. IsOpenedWith holds source found spares s a b) → MatchOption o (SaysSome a b) (λ s. IsOpened holds source asked spares s a b)
+taken_then holds None source asked found spares session none a b opens current is p = p
+taken_then holds (Some s) source asked found spares session none a b opens current is p =
     let same : s.now.current ≡ Neither = ap (λ (h : Held). h.now.current) p.opens.2 ∙ sym (ap (λ (h : Held). h.now.current) opens) ∙ current in
     (found, subst (λ c. IsTaken c asked found) (sym same) is, p)
 
 -- ---- any other text
 
-pub unplain_taken : (o : Option Held) (source : Source) (asked : Defaults) (spares : Bool) (a b : Option (List ℕ)) → is_plain asked.form ≡ false →
-    MatchOption o (SaysSome a b) (λ s. IsOpenedWith source asked spares s a b) → MatchOption o (SaysSome a b) (λ s. IsOpened source asked spares s a b)
-unplain_taken None source asked spares a b unplain p = p
-unplain_taken (Some s) source asked spares a b unplain p = (asked, by_choice s.now.current, p)
+pub unplain_taken : (holds : Holds) (o : Option Held) (source : Source) (asked : Defaults) (spares : Bool) (a b : Option (List ℕ)) → is_plain asked.form ≡ false →
+    MatchOption o (SaysSome a b) (λ s. IsOpenedWith holds source asked spares s a b) → MatchOption o (SaysSome a b) (λ s. IsOpened holds source asked spares s a b)
+unplain_taken holds None source asked spares a b unplain p = p
+unplain_taken holds (Some s) source asked spares a b unplain p = (asked, by_choice s.now.current, p)
   where
     same : asked ≡ without_plain asked
     same = ap (λ (b : Bool). let c : Defaults = if b then record asked { path = None } else asked in c) (sym unplain)
@@ -103,9 +104,9 @@ unplain_taken (Some s) source asked spares a b unplain p = (asked, by_choice s.n
     by_choice Neither = inl refl
 
 -- what is said after nothing
-pub said_same : (o : Option Held) (source : Source) (asked : Defaults) (spares : Bool) (a b c : Option (List ℕ)) → b ≡ a →
-    MatchOption o (SaysSome b c) (λ s. IsOpened source asked spares s b c) → MatchOption o (SaysSome a c) (λ s. IsOpened source asked spares s a c)
-said_same o source asked spares a b c same p = subst (λ e. MatchOption o (SaysSome e c) (λ s. IsOpened source asked spares s e c)) same p
+pub said_same : (holds : Holds) (o : Option Held) (source : Source) (asked : Defaults) (spares : Bool) (a b c : Option (List ℕ)) → b ≡ a →
+    MatchOption o (SaysSome b c) (λ s. IsOpened holds source asked spares s b c) → MatchOption o (SaysSome a c) (λ s. IsOpened holds source asked spares s a c)
+said_same holds o source asked spares a b c same p = subst (λ e. MatchOption o (SaysSome e c) (λ s. IsOpened holds source asked spares s e c)) same p
 
 -- ---- copies that are spared
 

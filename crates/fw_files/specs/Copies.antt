@@ -1,17 +1,52 @@
 -- Copies in devices (docs/tools.md, "Subcommands over files").
-use Rattle.std.specs.Prelude.{◌≡◌, ◌⊎◌, ℕ, ◌+◌, Bool, false, ◌&&◌, nat_lt, string_bytes, codes, List, [], ◌∷◌, ◌++◌, Option, Some, None, if◌then◌else◌}
+use Rattle.std.specs.Prelude.{◌≡◌, ◌⊎◌, ℕ, ◌+◌, ◌<◌, Bool, true, false, ◌&&◌, nat_lt, string_bytes, codes, List, [], ◌∷◌, ◌++◌, length, take, drop, Option, Some, None, option_map, Result, Ok, Err, if◌then◌else◌, ⊤}
 use Rattle.std.specs.Str.{bytes_eq}
+use Rattle.device_files.specs.Calls.{IsHonest, faults_of}
+use Rattle.device_files.specs.declared.record.Call.{Call}
 use Rattle.env_session.specs.declared.session.Stored.{Stored}
 use Rattle.envimg_core.specs.Geometry.{Shape}
 use Rattle.envimg_core.specs.State.{state_of}
 use Rattle.envcfg_core.specs.declared.config.Config.{Config}
 use Rattle.envcfg_core.specs.declared.place.Place.{Place}
+use Rattle.envcfg_core.specs.Place.{start_of}
 use Rattle.fw_engines.specs.Misplaced.{is_other_data}
 use Rattle.fw_engines.specs.Streams.{AppendsFront}
 use Rattle.fw_engines.specs.Ways.{is_good}
 use Rattle.fw_files.specs.declared.copies.ReadCopy.{ReadCopy}
+use Rattle.fw_files.specs.declared.file_fault.FileFault.{FileFault}
+use Rattle.fw_files.specs.declared.file_fault.FileFault.TheVariants as file
 use Rattle.fw_files.specs.declared.source.Source.{Source}
-use Rattle.fw_files.specs.WrittenBack.{first_differs, second_differs}
+use Rattle.fw_files.specs.WrittenBack.{CallsOn, first_differs, second_differs}
+
+-- the copy of this size at a place of a device, from where on and its bytes: none if it doesn't lie wholly inside
+abbrev pub copy_at : Place → (size : ℕ) → (device : List ℕ) → Option (ℕ × List ℕ)
+copy_at place size device = option_map (λ start. (start, take size (drop start device))) (start_of place.offset size (length device))
+
+abbrev pub read_view : ReadCopy → ℕ × List ℕ
+read_view copy = (copy.start, copy.bytes.items)
+
+-- A copy that is read is what its device shows at its place. It is refused as too short only if it doesn't lie wholly inside, and as
+-- one that can't be read only if the device can't be opened or failed. That is said of a device that held `start` when it was opened and
+-- whose answers are those of what it holds.
+abbrev pub ReadsIn : (start : List ℕ) → Place → (size : ℕ) → List Call → Result ReadCopy FileFault → Type 0
+ReadsIn start place size calls (Ok copy) = copy_at place size start ≡ Some (read_view copy)
+ReadsIn start place size calls (Err file.TooShort) = copy_at place size start ≡ None
+ReadsIn start place size calls (Err (file.CannotRead why)) = 0 < faults_of calls
+ReadsIn start place size calls (Err fault) = ⊤
+
+abbrev pub Reads : (start : List ℕ) → Place → (size : ℕ) → CallsOn → Result ReadCopy FileFault → Type 0
+Reads start place size (Some calls) result = IsHonest start calls → ReadsIn start place size calls result
+Reads start place size None (Ok copy) = ⊥
+Reads start place size None (Err file.TooShort) = ⊥
+Reads start place size None (Err fault) = ⊤
+
+-- the path of a copy's device
+abbrev pub device_at : Place → Option Place → (is_second : Bool) → List ℕ
+device_at first (Some place) true = string_bytes place.device
+device_at first place is_second = string_bytes first.device
+
+abbrev pub device_of : Config → (is_second : Bool) → List ℕ
+device_of config is_second = device_at config.first config.second is_second
 
 -- two copies of one device share a byte: each begins before the end of the other
 abbrev pub share_a_byte : ℕ → ℕ → ℕ → Bool

@@ -2,7 +2,6 @@
 use Rattle.std.specs.Prelude.{◌≡◌, ◌⊎◌, ℕ, List, Option, Some, None, Ok, option_map, string_bytes}
 use Rattle.envcfg_core.specs.Config.{CopyPlace, Settings, config_of}
 use Rattle.envcfg_core.specs.declared.place.Place.{Place}
-use Rattle.envimg_core.specs.Geometry.{Shape}
 use Rattle.envimg_core.specs.declared.geometry.Order.{Order}
 use Rattle.fw_engines.specs.CopyStatus as lines
 use Rattle.fw_engines.specs.CopyStatus.{Reports, file_status_of, status_of}
@@ -11,8 +10,11 @@ use Rattle.fw_engines.specs.declared.copy_status.FoundCopy.{FoundCopy}
 use Rattle.fw_engines.specs.declared.copy_status.Survey.{Survey}
 use Rattle.fw_engines.specs.declared.tool_end.ToolEnd.{ToolEnd}
 use Rattle.fw_arguments.specs.Report.{Copies, File, Report, Subject}
+use Rattle.fw_files.specs.FileTexts.{Holds}
+use Rattle.fw_files.specs.Files.{IsTextAt}
 use Rattle.fw_files.specs.Locks.{HasWaited}
 use Rattle.fw_files.specs.Said.{Says, Stops}
+use Rattle.fw_files.specs.Source.{shape_of}
 use Rattle.fw_files.specs.declared.copies.ReadCopy.{ReadCopy}
 use Rattle.fw_files.specs.declared.source.Source.{Source}
 
@@ -20,9 +22,6 @@ use Rattle.fw_files.specs.declared.source.Source.{Source}
 abbrev pub PrintsReport : lines.Report → Writers → Writers → ℕ → Type 0
 PrintsReport report old new status =
     (end : ToolEnd) × Reports old.output new.output report end × Says end.fault old.errors new.errors × (status ≡ end.status)
-
-abbrev pub shape_of : Order → Settings → Shape
-shape_of order settings = record { layout = settings.layout; size = settings.size; order = order }
 
 abbrev pub device_found : FoundCopy → List ℕ
 device_found found = found.device.now
@@ -36,10 +35,11 @@ pub record IsSurveyBy (order : Order) (settings : Settings) (survey : Survey) : 
   pub first : device_found survey.first ≡ device_named settings.first
   pub second : option_map device_found survey.second ≡ option_map device_named settings.second
 
--- the settings are those of some text, which is the survey's
-abbrev pub IsSurveyOf : Order → List ℕ → Survey → Type 0
-IsSurveyOf order path survey =
-    (survey.path.now ≡ path) × ((settings : Settings) × (config_of survey.config.now ≡ Ok settings) × IsSurveyBy order settings survey)
+-- the settings are those of the text at a path, which is the survey's
+abbrev pub IsSurveyOf : Holds → Order → (path : List ℕ) → Survey → Type 0
+IsSurveyOf holds order path survey =
+    (survey.path.now ≡ path) × IsTextAt holds path survey.config.now
+    × ((settings : Settings) × (config_of survey.config.now ≡ Ok settings) × IsSurveyBy order settings survey)
 
 -- ---- the code's survey of what was read
 
@@ -67,14 +67,16 @@ pub record IsSurveyIn (at text : List ℕ) (source : Source) (survey : Survey) :
 
 -- ---- what is printed
 
--- of copies with some bytes, or of a file with some
-abbrev pub ReportsSubject : Order → Subject → Writers → Writers → ℕ → Type 0
-ReportsSubject order (Copies path) old new status = (survey : Survey) × IsSurveyOf order path survey × PrintsReport (status_of survey) old new status
-ReportsSubject order (File path) old new status = (bytes : List ℕ) × PrintsReport (file_status_of order path bytes) old new status
+-- of copies with some bytes, or of the bytes of a file
+abbrev pub ReportsSubject : Holds → Order → Subject → Writers → Writers → ℕ → Type 0
+ReportsSubject holds order (Copies path) old new status =
+    (survey : Survey) × IsSurveyOf holds order path survey × PrintsReport (status_of survey) old new status
+ReportsSubject holds order (File path) old new status =
+    (bytes : List ℕ) × IsTextAt holds path bytes × PrintsReport (file_status_of order path bytes) old new status
 
 -- or before that a file can't be used, or memory runs out; locks may have been waited for
-abbrev pub ReportsOn : Report → Writers → Writers → ℕ → Type 0
-ReportsOn report old new status =
+abbrev pub ReportsOn : Holds → Report → Writers → Writers → ℕ → Type 0
+ReportsOn holds report old new status =
     Stops old new status
     ⊎ ((waited : Option (List ℕ)) × HasWaited old.errors waited
-    × ReportsSubject report.order report.subject (record { output = old.output; errors = waited }) new status)
+    × ReportsSubject holds report.order report.subject (record { output = old.output; errors = waited }) new status)

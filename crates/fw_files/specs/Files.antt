@@ -5,8 +5,10 @@ use Rattle.std.specs.Fmt.{decimal}
 use Rattle.std.specs.List.{concat}
 use Rattle.std.specs.Str.{bytes_eq}
 use Rattle.std.specs.declared.io.ErrorKind.{ErrorKind}
-use Rattle.std.specs.declared.io.ErrorKind.TheVariants.{IsADirectory, NotFound, PermissionDenied, ReadOnlyFilesystem, StorageFull, UnexpectedEof}
-use Rattle.envcfg_core.specs.Entries.{Outcome}
+use Rattle.std.specs.declared.io.ErrorKind.TheVariants.{IsADirectory, NotFound, PermissionDenied, ReadOnlyFilesystem, StorageFull}
+use Rattle.envcfg_core.specs.Entries.{Entry, Outcome}
+use Rattle.envcfg_core.specs.Import.{import_of}
+use Rattle.envcfg_core.specs.SetScript.{set_script_of}
 use Rattle.envcfg_core.specs.declared.entry.TextFault as texts
 use Rattle.envcfg_core.specs.declared.entry.TextFault.TheVariants as text
 use Rattle.envvars_core.specs.declared.refusals.Refusal.{Refusal}
@@ -27,6 +29,7 @@ use Rattle.fw_files.specs.declared.reasons.Explains.{Explains}
 use Rattle.fw_files.specs.declared.reasons.Explains.TheVariants as line
 use Rattle.fw_files.specs.declared.reasons.Reason as reasons
 use Rattle.fw_files.specs.declared.reasons.Reason.TheVariants as reason
+use Rattle.fw_files.specs.FileTexts.{Holds}
 use Rattle.fw_files.specs.ForeignTexts.{foreign_ending}
 use Rattle.fw_files.specs.Said.{message_of}
 use Rattle.fw_engines.specs.declared.tool_end.StreamFault.TheVariants as stream
@@ -43,6 +46,17 @@ dump_limit = 1073741824
 abbrev pub opened_path : List ℕ → List ℕ
 opened_path path = if bytes_eq path (codes "-") then codes "/dev/stdin" else path
 
+-- the file that is named so holds this text
+abbrev pub IsTextAt : Holds → (path text : List ℕ) → Type 0
+IsTextAt holds path text = holds (opened_path path) text
+
+-- the entries of the text for import at a path, and of the set script
+abbrev pub AreImportedAt : Holds → (path : List ℕ) → List Entry → Type 0
+AreImportedAt holds path entries = (text : List ℕ) × IsTextAt holds path text × (import_of text ≡ Ok entries)
+
+abbrev pub AreSetAt : Holds → (path : List ℕ) → List Entry → Type 0
+AreSetAt holds path entries = (text : List ℕ) × IsTextAt holds path text × (set_script_of text ≡ Ok entries)
+
 -- the fault of a text that is refused
 abbrev pub text_fault : texts.TextFault → FileFault
 text_fault text.Memory = file.Memory
@@ -54,10 +68,10 @@ IsTextFault outcome (file.Text fault) = outcome ≡ Err fault
 IsTextFault outcome file.Memory = Unit {0}
 IsTextFault outcome fault = ⊥
 
--- the stand-ins are those of some text, or there are none
-abbrev pub AreStubsOf : Option (List ℕ) → Statuses → Type 0
-AreStubsOf None stand_ins = stand_ins ≡ names.empty
-AreStubsOf (Some path) stand_ins = (text : List ℕ) × (stand_ins_of text ≡ Ok stand_ins)
+-- the stand-ins are those of the text at a path, or there are none
+abbrev pub AreStubsOf : Holds → Option (List ℕ) → Statuses → Type 0
+AreStubsOf holds None stand_ins = stand_ins ≡ names.empty
+AreStubsOf holds (Some path) stand_ins = (text : List ℕ) × IsTextAt holds path text × (stand_ins_of text ≡ Ok stand_ins)
 
 -- the fault of a board file that is refused
 abbrev pub fault_by : BoardFault → LineFault → FileFault
@@ -75,10 +89,10 @@ source_fault_by fault flaw = file.Source fault
 abbrev pub source_fault : SourceFault → FileFault
 source_fault fault = source_fault_by fault fault.flaw
 
--- the rules are those of some text, or there are none
-abbrev pub AreRulesOf : (may_ask : Bool) → Option (List ℕ) → List Rule → Type 0
-AreRulesOf may_ask None rules = rules ≡ []
-AreRulesOf may_ask (Some path) rules = (text : List ℕ) × (board_of may_ask text ≡ Ok rules)
+-- the rules are those of the text at a path, or there are none
+abbrev pub AreRulesOf : Holds → (may_ask : Bool) → Option (List ℕ) → List Rule → Type 0
+AreRulesOf holds may_ask None rules = rules ≡ []
+AreRulesOf holds may_ask (Some path) rules = (text : List ℕ) × IsTextAt holds path text × (board_of may_ask text ≡ Ok rules)
 
 -- ---- why
 
@@ -154,11 +168,6 @@ fault_line explains path (file.Default line refusal) = Some (entry_line path (na
 fault_line explains path fault = None
 
 -- ---- faults
-
--- of a read that didn't give the whole copy
-abbrev pub copy_fault : ErrorKind → FileFault
-copy_fault UnexpectedEof = file.TooShort
-copy_fault kind = file.CannotRead (reason_by kind)
 
 -- of a copy that may not be written, or can't be
 abbrev pub IsUnwritable : FileFault → Type 0

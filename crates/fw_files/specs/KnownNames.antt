@@ -6,6 +6,8 @@ use Rattle.std.specs.Str.Lines.{strip_carriage_return}
 use Rattle.memchr.specs.Find.{is_byte}
 use Rattle.text_parts.specs.Bytes.{begins_with, hash, without_blanks}
 use Rattle.text_parts.specs.Lines.{Line, numbered_lines}
+use Rattle.fw_files.specs.FileTexts.{Holds}
+use Rattle.fw_files.specs.Files.{IsTextAt}
 use Rattle.fw_files.specs.declared.file_fault.FileFault.{FileFault}
 use Rattle.fw_files.specs.declared.file_fault.FileFault.TheVariants as file
 
@@ -44,10 +46,10 @@ with_lines names (line ∷ lines) = and_then (with_line names line) (λ more. wi
 abbrev pub known_names : List ℕ → NamesOrLine
 known_names text = with_lines [] (numbered_lines text)
 
--- the names are those of some text, or there are none
-abbrev pub AreKnownOf : Option (List ℕ) → List (List ℕ) → Type 0
-AreKnownOf None names = names ≡ []
-AreKnownOf (Some path) names = (text : List ℕ) × (known_names text ≡ Ok names)
+-- the names are those of the text at a path, or there are none
+abbrev pub AreKnownOf : Holds → Option (List ℕ) → List (List ℕ) → Type 0
+AreKnownOf holds None names = names ≡ []
+AreKnownOf holds (Some path) names = (text : List ℕ) × IsTextAt holds path text × (known_names text ≡ Ok names)
 
 -- the fault is the definition's, or memory was refused
 abbrev pub IsKnownFault : NamesOrLine → FileFault → Type 0

@@ -2,6 +2,7 @@
 pub mod BareLines
 pub mod Copies
 pub mod CopyReport
+pub mod FileTexts
 pub mod Files
 pub mod ForeignTexts
 pub mod KnownNames

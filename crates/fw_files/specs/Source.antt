@@ -19,11 +19,23 @@ use Rattle.fw_arguments.specs.Calls.{Defaults}
 use Rattle.fw_arguments.specs.GivenTexts.{is_plain}
 use Rattle.fw_arguments.specs.declared.given_text.TextForm.{TextForm}
 use Rattle.fw_arguments.specs.declared.given_text.TextForm.TheVariants as form
+use Rattle.envcfg_core.specs.Config.{Settings, config_of}
+use Rattle.envimg_core.specs.Geometry.{Shape}
 use Rattle.fw_files.specs.BareLines.{bare_in}
+use Rattle.fw_files.specs.FileTexts.{Holds}
+use Rattle.fw_files.specs.Files.{IsTextAt}
 use Rattle.fw_files.specs.declared.copies.ReadCopy.{ReadCopy}
 use Rattle.fw_files.specs.declared.file_fault.FileFault.{FileFault}
 use Rattle.fw_files.specs.declared.file_fault.FileFault.TheVariants as file
 use Rattle.fw_files.specs.declared.source.Source.{Source}
+
+-- the settings are those of the configuration at a path
+abbrev pub AreSettingsAt : Holds → (path : List ℕ) → Settings → Type 0
+AreSettingsAt holds path settings = (text : List ℕ) × IsTextAt holds path text × (config_of text ≡ Ok settings)
+
+-- the copies that they name
+abbrev pub shape_of : Order → Settings → Shape
+shape_of order settings = record { layout = settings.layout; size = settings.size; order = order }
 
 -- what was read by a configuration: two copies if it names two
 pub record IsSourceOf (order : Order) (given : Config) (source : Source) : Type 0 where
@@ -103,16 +115,17 @@ abbrev pub default_fault : ℕ → Refusal → FileFault
 default_fault line refusals.Memory = file.Memory
 default_fault line refused = file.Default line refused
 
-abbrev pub AreDefaultsFrom : TextForm → ℕ → Contents → Type 0
-AreDefaultsFrom form room vars = (text : List ℕ) × AreDefaultsIn form text room vars
+-- of the text at a path
+abbrev pub AreDefaultsAt : Holds → (path : List ℕ) → TextForm → ℕ → Contents → Type 0
+AreDefaultsAt holds path form room vars = (text : List ℕ) × IsTextAt holds path text × AreDefaultsIn form text room vars
 
--- those of some text if a path is given, else no variables
-abbrev pub AreDefaultsOfPath : ℕ → Option (List ℕ) → TextForm → Contents → Type 0
-AreDefaultsOfPath room None form vars = vars ≡ record { env = env.empty; room = room }
-AreDefaultsOfPath room (Some path) form vars = AreDefaultsFrom form room vars
+-- those of a text if a path is given, else no variables
+abbrev pub AreDefaultsOfPath : Holds → ℕ → Option (List ℕ) → TextForm → Contents → Type 0
+AreDefaultsOfPath holds room None form vars = vars ≡ record { env = env.empty; room = room }
+AreDefaultsOfPath holds room (Some path) form vars = AreDefaultsAt holds path form room vars
 
-abbrev pub AreDefaultsOf : ℕ → Defaults → Contents → Type 0
-AreDefaultsOf room d vars = AreDefaultsOfPath room d.path d.form vars
+abbrev pub AreDefaultsOf : Holds → ℕ → Defaults → Contents → Type 0
+AreDefaultsOf holds room d vars = AreDefaultsOfPath holds room d.path d.form vars
 
 -- a copy has to be good, and no copy is
 abbrev pub lacks_copy : Defaults → Choice → Bool

@@ -4,6 +4,8 @@ use Rattle.std.specs.Str.{bytes_eq}
 use Rattle.std.specs.declared.alloc.Global.{Global}
 use Rattle.devices.specs.Changes.{Shows, AreAsRead, OneAtATime}
 use Rattle.devices.specs.Device.{Only}
+use Rattle.devices.specs.declared.device.Fault.{Fault}
+use Rattle.devices.specs.declared.device.Fault.TheVariants as device
 use Rattle.devices.specs.declared.writing.Change.{Change}
 use Rattle.device_files.specs.Calls.{IsHonest, LeftSince, MayLeave, seen_after}
 use Rattle.device_files.specs.declared.record.Call.{Call}
@@ -13,7 +15,14 @@ use Rattle.env_session.specs.declared.session.Stored.{Stored}
 use Rattle.envimg_core.specs.declared.choice.Choice.{Choice}
 use Rattle.envimg_core.specs.declared.choice.Choice.TheVariants.{First}
 use Rattle.fw_files.specs.declared.copies.ReadCopy.{ReadCopy}
+use Rattle.fw_files.specs.Files.{reason_by}
+use Rattle.fw_files.specs.declared.file_fault.FileFault.{FileFault}
+use Rattle.fw_files.specs.declared.file_fault.FileFault.TheVariants as file
+use Rattle.fw_files.specs.declared.reasons.Reason.{Reason}
+use Rattle.fw_files.specs.declared.reasons.Reason.TheVariants as reason
 use Rattle.fw_files.specs.declared.source.Source.{Source}
+use Rattle.std.specs.declared.io.ErrorKind.{ErrorKind}
+use Rattle.std.specs.declared.io.ErrorKind.TheVariants.{UnexpectedEof}
 
 -- a copy is to have other bytes than those that were read
 abbrev pub differs : (read : List ℕ) → (to_write : List ℕ) → Bool
@@ -61,17 +70,29 @@ pub record AreUnchanged (source : Source) (first : List ℕ) (second : Option (L
   pub first_copy : first ≡ source.first.bytes.items
   pub second_copy : IsSecondAsRead source.second second
 
--- the calls on the devices, if they were opened to be written
+-- the calls on devices that are handed back, if some are
 abbrev pub CallsOn : Type 0
 CallsOn = Option (List Call)
 
--- Both copies are written, and no crash undoes it: they are in the devices that were opened, or nothing was to be written.
+-- Both copies are written, and no crash undoes it: they are in the devices that are handed back, or nothing was to be written.
 -- That is said of devices which held `start` when they were opened and whose answers are those of what they hold.
 abbrev pub AreWritten : (start : List ℕ) → Source → (first : List ℕ) → (second : Option (List ℕ)) → CallsOn → Type 0
 AreWritten start source first second None = AreUnchanged source first second
 AreWritten start source first second (Some calls) =
     (before : ℕ) × IsBefore source before
     × (IsHonest start calls → ShowsCopies (seen_after start calls) source before first second × Only (seen_after start calls) (MayLeave start calls))
+
+-- why a copy can't be written, by the error of a call: a device that is too short by now was changed
+abbrev pub reason_to_write : ErrorKind → Reason
+reason_to_write UnexpectedEof = reason.Changed
+reason_to_write error = reason_by error
+
+-- the same by what its device answered, and the error of its last call
+abbrev pub fault_of : Fault → Option ErrorKind → FileFault
+fault_of device.Memory error = file.Memory
+fault_of device.Changed error = file.CannotWrite reason.Changed
+fault_of device.Failed None = file.CannotWrite reason.Changed
+fault_of device.Failed (Some error) = file.CannotWrite (reason_to_write error)
 
 -- ---- a crash
 
@@ -112,13 +133,14 @@ LeavesAtAnyMoment start last source first second (Some calls) =
 
 -- ---- a subcommand
 
--- what the devices held when they were opened to be written, and the calls on them before a subcommand and after it
+-- the devices that are handed back: what they held when they were opened to be written, and the calls on them before a subcommand
+-- and after it
 pub record Devices : Type 0 where
   pub start : List ℕ
   pub before : CallsOn
   pub after : CallsOn
 
--- none was opened to be written
+-- none is handed back
 abbrev pub AreLeft : Devices → Type 0
 AreLeft devices = devices.after ≡ devices.before
 

@@ -5,7 +5,7 @@ ghost use Rattle.devices.specs.Changes.{IsApart};
 ghost use Rattle.devices.specs.Device.{Only};
 ghost use Rattle.env_session.specs.Session.{bytes_of};
 ghost use Rattle.fw_engines.specs.Streams.{AppendsFront};
-ghost use Rattle.fw_files.specs.Copies.{goes_over, warned_of, warning_of};
+ghost use Rattle.fw_files.specs.Copies.{device_of, goes_over, warned_of, warning_of};
 ghost use Rattle.fw_files.specs.Said.{SaysSome};
 ghost use Rattle.fw_files.specs.WrittenBack.{AreWritten, IsLeft, LeavesAtAnyMoment, ShowsCopies, differs, first_differs, second_differs, step_of};
 
@@ -91,7 +91,7 @@ fn write_changed<X: Files + AllocGlobal, S: Start>(
     *devices = Some(device);
     match written {
         Ok(()) => Ok(()),
-        Err(_) => Err(CopyFault::at(last_call)),
+        Err(fault) => Err(CopyFault::at(fault, last_call)),
     }
 }
 
@@ -184,7 +184,9 @@ fn differs(read: &[u8], bytes: &[u8]) -> bool
 }
 
 /// The path of a copy's device.
-fn device_of(source: &Source, is_second: bool) -> &str {
+fn device_of(source: &Source, is_second: bool) -> &str
+    ensures { result.now ≡ device_of source.now.config is_second }
+{
     match &source.config.second {
         Some(place) if is_second => place.device.as_str(),
         _ => source.config.first.device.as_str(),

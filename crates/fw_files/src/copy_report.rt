@@ -2,8 +2,9 @@
 ghost use Rattle.std.specs.Prelude.{◌≡◌, ◌≤◌, IfOk, MatchOption, is_some, option_map, unwrap_or};
 ghost use Rattle.envimg_core.specs.declared.geometry.Order.{Order};
 ghost use Rattle.fw_engines.specs.CopyStatus.{file_status_of};
-ghost use Rattle.fw_files.specs.CopyReport.{IsSurveyIn, PrintsReport, ReportsOn, ReportsSubject, found_at, found_in, found_view};
+ghost use Rattle.fw_files.specs.CopyReport.{IsSurveyIn, PrintsReport, ReportsOn, found_at, found_in, found_view};
 ghost use Rattle.fw_arguments.specs.Report.{Copies, File, report_view};
+ghost use Rattle.fw_files.specs.Files.{IsTextAt};
 ghost use Rattle.fw_files.specs.Locks.{HasWaited};
 ghost use Rattle.fw_files.specs.Said.{SaysSome, Stops};
 ghost use Rattle.fw_files.specs.Source.{IsSourceOf};
@@ -33,7 +34,7 @@ pub fn run_report<X: System + AllocGlobal, W: Write, E: Write>(
     errors: &mut E,
 ) -> u8
     ensures status { result ≤ 1 }
-    ensures reports { ReportsOn (report_view asked.now)
+    ensures reports { ReportsOn (X.holds rt.now) (report_view asked.now)
         (record { output = W.contents output.old; errors = E.contents errors.old })
         (record { output = W.contents output.new; errors = E.contents errors.new }) result }
 {
@@ -47,7 +48,7 @@ fn report_on<X: System + AllocGlobal, W: Write, E: Write>(
     output: &mut W,
     errors: &mut E,
 ) -> Option<u8>
-    ensures { ReportsOn (report_view asked.now)
+    ensures { ReportsOn (X.holds rt.now) (report_view asked.now)
         (record { output = W.contents output.old; errors = E.contents errors.old })
         (record { output = W.contents output.new; errors = E.contents errors.new }) (unwrap_or result 1) }
 {
@@ -65,7 +66,7 @@ fn report_copies<X: System + AllocGlobal, W: Write, E: Write>(
     output: &mut W,
     errors: &mut E,
 ) -> Option<u8>
-    ensures { ReportsOn (record { order = order; subject = Copies path.now })
+    ensures { ReportsOn (X.holds rt.now) (record { order = order; subject = Copies path.now })
         (record { output = W.contents output.old; errors = E.contents errors.old })
         (record { output = W.contents output.new; errors = E.contents errors.new }) (unwrap_or result 1) }
 {
@@ -98,7 +99,7 @@ fn report_file<X: System + AllocGlobal, W: Write, E: Write>(
     output: &mut W,
     errors: &mut E,
 ) -> Option<u8>
-    ensures { ReportsOn (record { order = order; subject = File path.now })
+    ensures { ReportsOn (X.holds rt.now) (record { order = order; subject = File path.now })
         (record { output = W.contents output.old; errors = E.contents errors.old })
         (record { output = W.contents output.new; errors = E.contents errors.new }) (unwrap_or result 1) }
 {
@@ -116,7 +117,7 @@ fn report_bytes<W: Write, E: Write>(
     output: &mut W,
     errors: &mut E,
 ) -> u8
-    ensures { ReportsSubject order (File path.now)
+    ensures { PrintsReport (file_status_of order path.now bytes.now)
         (record { output = W.contents output.old; errors = E.contents errors.old })
         (record { output = W.contents output.new; errors = E.contents errors.new }) result }
 {
@@ -130,7 +131,8 @@ fn read_locked<X: System + AllocGlobal, E: Write>(
     path: &str,
     errors: &mut E,
 ) -> Result<Vec<u8>, FileFault>
-    ensures { HasWaited (E.contents errors.old) (E.contents errors.new) }
+    ensures waited { HasWaited (E.contents errors.old) (E.contents errors.new) }
+    ensures held { IfOk result (λ bytes. IsTextAt (X.holds rt.now) path.now bytes.items) }
 {
     let _lock = lock_path(rt, path, Hold::Shared, errors);
     read_file(rt, path)

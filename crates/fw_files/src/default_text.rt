@@ -7,24 +7,23 @@ ghost use Rattle.envcfg_core.specs.Import.{import_of};
 ghost use Rattle.fw_arguments.specs.Calls.{defaults_view};
 ghost use Rattle.fw_engines.specs.Defaults.{written};
 ghost use Rattle.fw_files.specs.Said.{SaysSome};
-ghost use Rattle.fw_files.specs.Source.{AreDefaultsFrom, AreDefaultsIn, AreDefaultsOf, AreEntriesIn, IsFound, IsRefused, closed_lines, closing_byte, default_fault, escaped_byte, is_escape, takes_initial};
+ghost use Rattle.fw_files.specs.Source.{AreDefaultsAt, AreDefaultsIn, AreDefaultsOf, AreEntriesIn, IsFound, IsRefused, closed_lines, closing_byte, default_fault, escaped_byte, is_escape, takes_initial};
 
 use crate::bare_lines::bare_in;
 use crate::file_fault::{FileFault, value_or_say};
 use crate::file_texts::INITIAL_ENVIRONMENT;
 use crate::files::{import_from, read_text, source_from};
 use crate::reasons::Explains;
+use crate::system::System;
 use envcfg_core::TextEntry;
 use envvars_core::{Refusal, Vars};
 use fw_arguments::{Defaults, GivenText, TextForm};
 use fw_engines::defaults;
 use std::alloc::{AllocError, Global};
-use std::fs::OpenOptions;
 use std::io::Write;
-use std::rt::Files;
 
 /// The default environment that is asked for, with the text of the board's build if none is given and it is there.
-pub(crate) fn found_defaults<'w, X: Files>(rt: &X, asked: Defaults<'w>) -> Defaults<'w>
+pub(crate) fn found_defaults<'w, X: System>(rt: &X, asked: Defaults<'w>) -> Defaults<'w>
     ensures { IsFound (defaults_view asked.entry) (defaults_view result) }
 {
     if takes_initial(&asked) && is_there(rt, INITIAL_ENVIRONMENT) {
@@ -46,18 +45,18 @@ fn takes_initial(asked: &Defaults<'_>) -> bool
 }
 
 /// Whether a file can be opened.
-fn is_there<X: Files>(rt: &X, path: &str) -> bool {
-    OpenOptions::new().read(true).open(rt, path).is_ok()
+fn is_there<X: System>(rt: &X, path: &str) -> bool {
+    rt.open_to_read(path).is_ok()
 }
 
 /// The default environment of its text, or an empty one.
-pub(crate) fn given_defaults<X: Files + AllocGlobal>(
+pub(crate) fn given_defaults<X: System + AllocGlobal>(
     rt: &X,
     room: u32,
     asked: &Defaults<'_>,
 ) -> Result<Vars, FileFault>
     requires { 1 ≤ room }
-    ensures { IfOk result (AreDefaultsOf room (defaults_view asked.now)) }
+    ensures { IfOk result (AreDefaultsOf (X.holds rt.now) room (defaults_view asked.now)) }
 {
     match asked.path {
         None => Ok(Vars::empty(rt.alloc(), room)),
@@ -66,7 +65,7 @@ pub(crate) fn given_defaults<X: Files + AllocGlobal>(
 }
 
 /// The variables of a text, in this room; a fault is reported on `errors`.
-pub fn variables_or_say<X: Files + AllocGlobal, E: Write>(
+pub fn variables_or_say<X: System + AllocGlobal, E: Write>(
     rt: &X,
     room: u32,
     text: GivenText<'_>,
@@ -74,21 +73,21 @@ pub fn variables_or_say<X: Files + AllocGlobal, E: Write>(
 ) -> Option<Vars>
     requires { 1 ≤ room }
     ensures { MatchOption result (SaysSome (E.contents errors.old) (E.contents errors.new))
-        (λ vars. AreDefaultsFrom text.entry.form room vars × (E.contents errors.new ≡ E.contents errors.old)) }
+        (λ vars. AreDefaultsAt (X.holds rt.now) text.entry.path.now text.entry.form room vars × (E.contents errors.new ≡ E.contents errors.old)) }
 {
     let read = read_default(rt, room, text.path, text.form);
     value_or_say(rt.alloc(), errors, Explains::Reason, text.path, read)
 }
 
 /// Reads the default environment.
-fn read_default<X: Files + AllocGlobal>(
+fn read_default<X: System + AllocGlobal>(
     rt: &X,
     room: u32,
     path: &str,
     form: TextForm,
 ) -> Result<Vars, FileFault>
     requires { 1 ≤ room }
-    ensures { IfOk result (AreDefaultsFrom form room) }
+    ensures { IfOk result (AreDefaultsAt (X.holds rt.now) path.now form room) }
 {
     let text = read_text(rt, path)?;
     default_from(rt.alloc(), room, form, &text)

@@ -84,12 +84,12 @@ pub(crate) fn is_flash<X: Files>(rt: &X, path: &str) -> bool {
     }
 }
 
-/// Why seeking to the end of an open file failed, by the kind of the error: on some file systems a directory has no
-/// end.
-pub(crate) fn why_not_sought<X: Files>(rt: &X, path: &str, error: ErrorKind) -> Reason {
-    match kind_of(rt, path) {
-        Some(kind) if kind.is_dir() => Reason::Directory,
-        _ => Reason::by(error),
+/// Why a call of an open file failed, by the kind of its error if that is known: on some file systems a directory has no end.
+pub(crate) fn why_not_used<X: Files>(rt: &X, path: &str, error: Option<ErrorKind>) -> Reason {
+    match (kind_of(rt, path), error) {
+        (Some(kind), _) if kind.is_dir() => Reason::Directory,
+        (_, Some(error)) => Reason::by(error),
+        (_, None) => Reason::Unknown,
     }
 }
 

@@ -5,7 +5,7 @@ ghost use Rattle.envcfg_core.specs.Import.{import_of};
 ghost use Rattle.envcfg_core.specs.SetScript.{set_script_of};
 ghost use Rattle.env_source.specs.Sources.{source_of};
 ghost use Rattle.board_file.specs.BoardFiles.{board_of};
-ghost use Rattle.fw_files.specs.Files.{AreRulesOf, AreStubsOf, IsTextFault, board_fault, dump_limit, file_limit, opened_path, source_fault, text_fault};
+ghost use Rattle.fw_files.specs.Files.{AreImportedAt, AreRulesOf, AreSetAt, AreStubsOf, IsTextAt, IsTextFault, board_fault, dump_limit, file_limit, opened_path, source_fault, text_fault};
 ghost use Rattle.fw_files.specs.ForeignTexts.{foreign_in};
 ghost use Rattle.fw_files.specs.Said.{SaysSome};
 ghost use Rattle.hush_commands.specs.Stubs.{stand_ins_of};
@@ -14,6 +14,7 @@ use crate::file_fault::{FileFault, value_or_say};
 use crate::file_texts::DEVICE_OF_INPUT;
 use crate::foreign_texts::foreign_in;
 use crate::reasons::{Explains, Reason};
+use crate::system::System;
 use board_file::{BoardFault, LineFault, parse_board};
 use env_source::{Flaw, SourceFault, parse_source};
 use envcfg_core::{TextEntry, TextFault, parse_import, parse_set_script};
@@ -22,9 +23,7 @@ use fw_engines::StreamFault;
 use fw_engines::streams::read_up_to;
 use hush_commands::{BoardRules, StubFault, Stubs};
 use std::alloc::Global;
-use std::fs::OpenOptions;
 use std::io::{self, Read, Write};
-use std::rt::Files;
 
 /// The most bytes of a file that is read whole.
 const FILE_LIMIT: usize = 16_777_216;
@@ -40,6 +39,8 @@ struct Reading<F> {
 }
 
 impl<F: Read> Read for Reading<F> {
+    ghost remaining = { λ r. F.remaining r.file };
+
     fn read(&mut self, buf: &mut [u8]) -> io::Result<usize> {
         match self.file.read(buf) {
             Ok(count) => Ok(count),
@@ -63,15 +64,17 @@ fn opened_path(path: &str) -> &str
 }
 
 /// Reads a whole file of at most 16,777,216 bytes, or standard input.
-pub fn read_file<X: Files + AllocGlobal>(rt: &X, path: &str) -> Result<Vec<u8>, FileFault>
-    ensures { IfOk result (λ bytes. length bytes.items ≤ file_limit) }
+pub fn read_file<X: System + AllocGlobal>(rt: &X, path: &str) -> Result<Vec<u8>, FileFault>
+    ensures held { IfOk result (λ bytes. IsTextAt (X.holds rt.now) path.now bytes.items) }
+    ensures most { IfOk result (λ bytes. length bytes.items ≤ file_limit) }
 {
     read_within(rt, path, FILE_LIMIT, Reason::TooLong)
 }
 
 /// Reads a text as [`read_file`] does; what is none by its first bytes, or as an image, is refused.
-pub fn read_text<X: Files + AllocGlobal>(rt: &X, path: &str) -> Result<Vec<u8>, FileFault>
-    ensures { IfOk result (λ bytes. foreign_in bytes.items ≡ None) }
+pub fn read_text<X: System + AllocGlobal>(rt: &X, path: &str) -> Result<Vec<u8>, FileFault>
+    ensures held { IfOk result (λ bytes. IsTextAt (X.holds rt.now) path.now bytes.items) }
+    ensures own { IfOk result (λ bytes. foreign_in bytes.items ≡ None) }
 {
     let bytes = read_file(rt, path)?;
     match foreign_in(&bytes) {
@@ -81,23 +84,25 @@ pub fn read_text<X: Files + AllocGlobal>(rt: &X, path: &str) -> Result<Vec<u8>, 
 }
 
 /// Reads a whole dump of at most 1,073,741,824 bytes, or standard input.
-pub fn read_dump<X: Files + AllocGlobal>(rt: &X, path: &str) -> Result<Vec<u8>, FileFault>
-    ensures { IfOk result (λ bytes. length bytes.items ≤ dump_limit) }
+pub fn read_dump<X: System + AllocGlobal>(rt: &X, path: &str) -> Result<Vec<u8>, FileFault>
+    ensures held { IfOk result (λ bytes. IsTextAt (X.holds rt.now) path.now bytes.items) }
+    ensures most { IfOk result (λ bytes. length bytes.items ≤ dump_limit) }
 {
     read_within(rt, path, DUMP_LIMIT, Reason::LongerThanDump)
 }
 
 /// Reads a whole file of at most `limit` bytes, or standard input; a longer one is refused for this reason.
-fn read_within<X: Files + AllocGlobal>(
+fn read_within<X: System + AllocGlobal>(
     rt: &X,
     path: &str,
     limit: usize,
     too_long: Reason,
 ) -> Result<Vec<u8>, FileFault>
     requires { limit ≤ dump_limit }
-    ensures { IfOk result (λ bytes. length bytes.items ≤ limit) }
+    ensures held { IfOk result (λ bytes. IsTextAt (X.holds rt.now) path.now bytes.items) }
+    ensures most { IfOk result (λ bytes. length bytes.items ≤ limit) }
 {
-    let file = OpenOptions::new().read(true).open(rt, opened_path(path))?;
+    let file = rt.open_to_read(opened_path(path))?;
     let mut reading = Reading {
         file,
         reason: Reason::Unknown,
@@ -137,14 +142,14 @@ pub(crate) fn source_from(alloc: Global, text: &[u8]) -> Result<Vec<TextEntry>, 
 }
 
 /// The entries of the text for import at a path; a fault is reported on `errors`.
-pub fn entries_or_say<X: Files + AllocGlobal, E: Write>(
+pub fn entries_or_say<X: System + AllocGlobal, E: Write>(
     rt: &X,
     path: &str,
     explains: Explains,
     errors: &mut E,
 ) -> Option<Vec<TextEntry>>
     ensures { MatchOption result (SaysSome (E.contents errors.old) (E.contents errors.new))
-        (λ entries. ((text : List ℕ) × (import_of text ≡ Ok (map entry_view entries.items))) × (E.contents errors.new ≡ E.contents errors.old)) }
+        (λ entries. AreImportedAt (X.holds rt.now) path.now (map entry_view entries.items) × (E.contents errors.new ≡ E.contents errors.old)) }
 {
     let text = value_or_say(rt.alloc(), errors, explains, path, read_text(rt, path))?;
     value_or_say(
@@ -157,14 +162,14 @@ pub fn entries_or_say<X: Files + AllocGlobal, E: Write>(
 }
 
 /// The entries of the set script at a path; a fault is reported on `errors`.
-pub fn script_entries_or_say<X: Files + AllocGlobal, E: Write>(
+pub fn script_entries_or_say<X: System + AllocGlobal, E: Write>(
     rt: &X,
     path: &str,
     explains: Explains,
     errors: &mut E,
 ) -> Option<Vec<TextEntry>>
     ensures { MatchOption result (SaysSome (E.contents errors.old) (E.contents errors.new))
-        (λ entries. ((text : List ℕ) × (set_script_of text ≡ Ok (map entry_view entries.items))) × (E.contents errors.new ≡ E.contents errors.old)) }
+        (λ entries. AreSetAt (X.holds rt.now) path.now (map entry_view entries.items) × (E.contents errors.new ≡ E.contents errors.old)) }
 {
     let text = value_or_say(rt.alloc(), errors, explains, path, read_file(rt, path))?;
     value_or_say(
@@ -188,11 +193,11 @@ pub(crate) fn script_from(alloc: Global, text: &[u8]) -> Result<Vec<TextEntry>, 
 }
 
 /// Reads a stand-in file; without one there are no stand-ins.
-pub fn read_stand_ins<X: Files + AllocGlobal>(
+pub fn read_stand_ins<X: System + AllocGlobal>(
     rt: &X,
     path: Option<&str>,
 ) -> Result<Stubs, FileFault>
-    ensures { IfOk result (AreStubsOf (option_map (λ p. p.now) path.entry)) }
+    ensures { IfOk result (AreStubsOf (X.holds rt.now) (option_map (λ p. p.now) path.entry)) }
 {
     match path {
         None => stand_ins_from(rt.alloc(), b""),
@@ -201,8 +206,8 @@ pub fn read_stand_ins<X: Files + AllocGlobal>(
 }
 
 /// Reads the stand-ins in a file.
-pub fn read_stand_in_file<X: Files + AllocGlobal>(rt: &X, path: &str) -> Result<Stubs, FileFault>
-    ensures { IfOk result (AreStubsOf (Some path.now)) }
+pub fn read_stand_in_file<X: System + AllocGlobal>(rt: &X, path: &str) -> Result<Stubs, FileFault>
+    ensures { IfOk result (AreStubsOf (X.holds rt.now) (Some path.now)) }
 {
     let text = read_file(rt, path)?;
     stand_ins_from(rt.alloc(), &text)
@@ -220,12 +225,12 @@ fn stand_ins_from(alloc: Global, text: &[u8]) -> Result<Stubs, FileFault>
 }
 
 /// Reads a board file, of which answers may be open if the board may be asked (`may_ask`); without one there are no rules.
-pub fn read_board<X: Files + AllocGlobal>(
+pub fn read_board<X: System + AllocGlobal>(
     rt: &X,
     path: Option<&str>,
     may_ask: bool,
 ) -> Result<BoardRules, FileFault>
-    ensures { IfOk result (AreRulesOf may_ask (option_map (λ p. p.now) path.entry)) }
+    ensures { IfOk result (AreRulesOf (X.holds rt.now) may_ask (option_map (λ p. p.now) path.entry)) }
 {
     match path {
         None => Ok(BoardRules::none(rt.alloc())),
@@ -234,12 +239,12 @@ pub fn read_board<X: Files + AllocGlobal>(
 }
 
 /// Reads the rules in a file.
-fn read_board_file<X: Files + AllocGlobal>(
+fn read_board_file<X: System + AllocGlobal>(
     rt: &X,
     path: &str,
     may_ask: bool,
 ) -> Result<BoardRules, FileFault>
-    ensures { IfOk result (AreRulesOf may_ask (Some path.now)) }
+    ensures { IfOk result (AreRulesOf (X.holds rt.now) may_ask (Some path.now)) }
 {
     let text = read_file(rt, path)?;
     board_from(rt.alloc(), &text, may_ask)

@@ -4,18 +4,18 @@ ghost use Rattle.fw_files.specs.KnownNames.{AreKnownOf, IsKnownFault, is_known_n
 
 use crate::file_fault::FileFault;
 use crate::files::read_file;
+use crate::system::System;
 use std::alloc::{AllocError, Global};
-use std::rt::Files;
 use text_parts::{
     begins_with_byte, contains_byte, numbered_lines, strip_carriage_return, without_blanks,
 };
 
 /// Reads a file of known names; without one there are none.
-pub fn read_known<X: Files + AllocGlobal>(
+pub fn read_known<X: System + AllocGlobal>(
     rt: &X,
     path: Option<&str>,
 ) -> Result<Vec<Vec<u8>>, FileFault>
-    ensures { IfOk result (λ names. AreKnownOf (option_map (λ p. p.now) path.entry) (names_view names)) }
+    ensures { IfOk result (λ names. AreKnownOf (X.holds rt.now) (option_map (λ p. p.now) path.entry) (names_view names)) }
 {
     match path {
         None => Ok(Vec::new(rt.alloc())),
@@ -24,8 +24,8 @@ pub fn read_known<X: Files + AllocGlobal>(
 }
 
 /// Reads the names in a file.
-fn read_known_file<X: Files + AllocGlobal>(rt: &X, path: &str) -> Result<Vec<Vec<u8>>, FileFault>
-    ensures { IfOk result (λ names. AreKnownOf (Some path.now) (names_view names)) }
+fn read_known_file<X: System + AllocGlobal>(rt: &X, path: &str) -> Result<Vec<Vec<u8>>, FileFault>
+    ensures { IfOk result (λ names. AreKnownOf (X.holds rt.now) (Some path.now) (names_view names)) }
 {
     let text = read_file(rt, path)?;
     known_in(rt.alloc(), &text)

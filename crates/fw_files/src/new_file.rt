@@ -1,17 +1,17 @@
 //! Files that are made, and written whole.
-ghost use Rattle.std.specs.Prelude.{IfErr};
+ghost use Rattle.std.specs.Prelude.{IfErr, OnOk};
 ghost use Rattle.fw_files.specs.Files.{IsUnwritable};
 
 use crate::device_access::is_flash;
 use crate::file_fault::FileFault;
 use crate::reasons::Reason;
-use std::fs::OpenOptions;
+use crate::system::System;
 use std::io::{self, Write};
-use std::rt::Files;
 
 /// Writes a whole file, which is made if it isn't there. Raw flash isn't written: it has to be erased first.
-pub fn write_file<X: Files>(rt: &X, path: &str, bytes: &[u8]) -> Result<(), FileFault>
-    ensures { IfErr result IsUnwritable }
+pub fn write_file<X: System>(rt: &X, path: &str, bytes: &[u8]) -> Result<(), FileFault>
+    ensures written { OnOk result (X.wrote rt.now path.now bytes.now) }
+    ensures unwritable { IfErr result IsUnwritable }
 {
     if is_flash(rt, path) {
         return Err(FileFault::CannotWrite(Reason::Unknown));
@@ -23,11 +23,9 @@ pub fn write_file<X: Files>(rt: &X, path: &str, bytes: &[u8]) -> Result<(), File
 }
 
 /// The same, with the error of the system.
-fn write_whole<X: Files>(rt: &X, path: &str, bytes: &[u8]) -> io::Result<()> {
-    let mut file = OpenOptions::new()
-        .write(true)
-        .create(true)
-        .truncate(true)
-        .open(rt, path)?;
+fn write_whole<X: System>(rt: &X, path: &str, bytes: &[u8]) -> io::Result<()>
+    ensures { OnOk result (X.wrote rt.now path.now bytes.now) }
+{
+    let mut file = rt.open_emptied(path)?;
     file.write_all(bytes)
 }

@@ -1,15 +1,17 @@
 //! The devices of the copies, opened to be written.
 ghost use Rattle.std.specs.Prelude.{◌≡◌, ◌≤◌, ◌+◌, [], IfOk, OnOk};
 ghost use Rattle.device_files.specs.Record.{calls_in};
-ghost use Rattle.fw_files.specs.WrittenBack.{IsBefore};
+ghost use Rattle.fw_files.specs.WrittenBack.{IsBefore, fault_of, reason_to_write};
+ghost use Rattle.fw_files.specs.declared.file_fault.FileFault.TheVariants.{CannotWrite};
 
 use crate::changed_copies::Changed;
 use crate::copies::ReadCopy;
-use crate::device_access::{is_pipe, is_raw, why_not_sought};
+use crate::device_access::{is_pipe, is_raw, why_not_used};
 use crate::file_fault::FileFault;
 use crate::reasons::Reason;
 use crate::source::Source;
 use device_files::{DeviceFile, LastCall, OpenDevice, Start};
+use devices::Fault;
 use envcfg_core::Place;
 use std::fs::{OpenFile, OpenOptions};
 use std::io::{ErrorKind, Read, Seek, SeekFrom, Write};
@@ -26,26 +28,43 @@ pub(crate) struct CopyFault {
 
 impl CopyFault {
     /// It can't be written for this reason.
-    fn unwritable(is_second: bool, reason: Reason) -> CopyFault {
+    fn unwritable(is_second: bool, reason: Reason) -> CopyFault
+        ensures copy { result.is_second ≡ is_second }
+        ensures fault { result.fault ≡ CannotWrite reason }
+    {
         CopyFault {
             is_second,
             fault: FileFault::CannotWrite(reason),
         }
     }
 
-    /// The last call of the devices failed, or gave other bytes than those that were read at the start.
-    pub(crate) fn at(last: LastCall) -> CopyFault {
-        match last.failure {
-            Some(ErrorKind::OutOfMemory) => CopyFault {
+    /// The devices answered this, and their last call came to that.
+    pub(crate) fn at(fault: Fault, last: LastCall) -> CopyFault
+        ensures copy { result.is_second ≡ last.is_second }
+        ensures fault { result.fault ≡ fault_of fault last.failure }
+    {
+        match (fault, last.failure) {
+            (Fault::Memory, _) => CopyFault {
                 is_second: last.is_second,
                 fault: FileFault::Memory,
             },
-            // the device was longer when the copy was read
-            None | Some(ErrorKind::UnexpectedEof) => {
-                CopyFault::unwritable(last.is_second, Reason::Changed)
+            (Fault::Failed, Some(kind)) => {
+                CopyFault::unwritable(last.is_second, why_not_written(kind))
             }
-            Some(kind) => CopyFault::unwritable(last.is_second, Reason::by(kind)),
+            // another program wrote the copy
+            (_, _) => CopyFault::unwritable(last.is_second, Reason::Changed),
         }
+    }
+}
+
+/// Why a copy can't be written, by the error of a call.
+fn why_not_written(kind: ErrorKind) -> Reason
+    ensures { result ≡ reason_to_write kind }
+{
+    match kind {
+        // the device was longer when the copy was read
+        ErrorKind::UnexpectedEof => Reason::Changed,
+        _ => Reason::by(kind),
     }
 }
 
@@ -110,7 +129,7 @@ fn open_copy<X: Files>(
     let length = match file.seek(SeekFrom::End(0)) {
         Ok(length) => length as usize,
         Err(error) => {
-            let reason = why_not_sought(rt, path, error.kind());
+            let reason = why_not_used(rt, path, Some(error.kind()));
             return Err(CopyFault::unwritable(is_second, reason));
         }
     };
@@ -151,6 +170,6 @@ fn settled<F: Read + Write + Seek + OpenFile + Drop, S: Start>(
 {
     match OpenDevice::settled(first, second) {
         Ok(device) => Ok(device),
-        Err(last) => Err(CopyFault::at(last)),
+        Err(last) => Err(CopyFault::at(Fault::Failed, last)),
     }
 }

@@ -15,6 +15,7 @@ use crate::file_texts::{BAD_CRC_DEFAULT, IN_FIRST, IN_SECOND, LOOK_AT, NO_GOOD_C
 use crate::misread_copies::spare_misread;
 use crate::reasons::Explains;
 use crate::source::Source;
+use crate::system::System;
 use env_session::{Session, Stored};
 use envimg_core::{Choice, CopyState, check_copy, choose};
 use envvars_core::Vars;
@@ -22,13 +23,12 @@ use fw_arguments::Defaults;
 use fw_engines::streams::{say, write_three, write_two};
 use std::alloc::{AllocError, Global};
 use std::io::Write;
-use std::rt::Files;
 
 /// The session over these copies, with the default environment of a text, or an empty one; a text of plain lines is read
 /// only if neither copy is good. If neither is, that is reported on `errors`, before a fault of the text. The result is
 /// `None`, with the reason reported, if one has to be, or if copies are to be spared (`spares`) and one of them is good in
 /// another way than the configuration has it.
-pub fn open<X: Files + AllocGlobal, E: Write>(
+pub fn open<X: System + AllocGlobal, E: Write>(
     rt: &X,
     source: &Source,
     asked: &Defaults<'_>,
@@ -37,7 +37,7 @@ pub fn open<X: Files + AllocGlobal, E: Write>(
     errors: &mut E,
 ) -> Option<Session>
     ensures { MatchOption result (SaysSome (E.contents errors.old) (E.contents errors.new))
-        (λ session. IsOpened source.now (defaults_view asked.now) spares session (E.contents errors.old) (E.contents errors.new)) }
+        (λ session. IsOpened (X.holds rt.now) source.now (defaults_view asked.now) spares session (E.contents errors.old) (E.contents errors.new)) }
 {
     if asked.form.is_plain() {
         open_plain(rt, source, asked, spares, explains, errors)
@@ -47,7 +47,7 @@ pub fn open<X: Files + AllocGlobal, E: Write>(
 }
 
 /// The same if the text has plain lines, and may be that of the board's build.
-fn open_plain<X: Files + AllocGlobal, E: Write>(
+fn open_plain<X: System + AllocGlobal, E: Write>(
     rt: &X,
     source: &Source,
     asked: &Defaults<'_>,
@@ -57,7 +57,7 @@ fn open_plain<X: Files + AllocGlobal, E: Write>(
 ) -> Option<Session>
     requires { is_plain asked.now.form ≡ true }
     ensures { MatchOption result (SaysSome (E.contents errors.old) (E.contents errors.new))
-        (λ session. IsOpened source.now (defaults_view asked.now) spares session (E.contents errors.old) (E.contents errors.new)) }
+        (λ session. IsOpened (X.holds rt.now) source.now (defaults_view asked.now) spares session (E.contents errors.old) (E.contents errors.new)) }
 {
     let none = Vars::empty(rt.alloc(), source.geometry.room());
     let opened = start(rt.alloc(), source, none);
@@ -73,7 +73,7 @@ fn open_plain<X: Files + AllocGlobal, E: Write>(
 }
 
 /// The session with the default environment of this text, or with an empty one.
-fn open_with<X: Files + AllocGlobal, E: Write>(
+fn open_with<X: System + AllocGlobal, E: Write>(
     rt: &X,
     source: &Source,
     asked: &Defaults<'_>,
@@ -82,7 +82,7 @@ fn open_with<X: Files + AllocGlobal, E: Write>(
     errors: &mut E,
 ) -> Option<Session>
     ensures { MatchOption result (SaysSome (E.contents errors.old) (E.contents errors.new))
-        (λ session. IsOpenedWith source.now (defaults_view asked.now) spares session (E.contents errors.old) (E.contents errors.new)) }
+        (λ session. IsOpenedWith (X.holds rt.now) source.now (defaults_view asked.now) spares session (E.contents errors.old) (E.contents errors.new)) }
 {
     match session_over(rt, source, asked) {
         Ok(session) => accept(rt, source, asked, spares, session, errors),
@@ -103,7 +103,7 @@ fn open_with<X: Files + AllocGlobal, E: Write>(
 
 /// The session, with a warning if neither copy is good; `None` if one has to be, or if they are spared, and then it is
 /// reported why.
-fn accept<X: Files + AllocGlobal, E: Write>(
+fn accept<X: System + AllocGlobal, E: Write>(
     rt: &X,
     source: &Source,
     asked: &Defaults<'_>,
@@ -125,7 +125,7 @@ fn accept<X: Files + AllocGlobal, E: Write>(
 }
 
 /// Looks whether the copies may be written over, if they are to be spared; `None` if not, and then it is reported why.
-fn spare<X: Files + AllocGlobal, E: Write>(
+fn spare<X: System + AllocGlobal, E: Write>(
     rt: &X,
     source: &Source,
     spares: bool,
@@ -196,12 +196,12 @@ pub(crate) fn fault_of_copy(state: CopyState) -> &'static [u8]
 }
 
 /// The session over these copies. A fault is that of the default text.
-fn session_over<X: Files + AllocGlobal>(
+fn session_over<X: System + AllocGlobal>(
     rt: &X,
     source: &Source,
     asked: &Defaults<'_>,
 ) -> Result<Session, FileFault>
-    ensures { IfOk result (OpensOver source.now (defaults_view asked.now)) }
+    ensures { IfOk result (OpensOver (X.holds rt.now) source.now (defaults_view asked.now)) }
 {
     let given = given_defaults(rt, source.geometry.room(), asked)?;
     start(rt.alloc(), source, given)

@@ -2,15 +2,17 @@
 ghost use Rattle.std.specs.Prelude.{◌≡◌, Ok, Some, false, IfOk, MatchOption, is_some, replicate, None};
 ghost use Rattle.envcfg_core.specs.Config.{config_of, config_view};
 ghost use Rattle.fw_files.specs.Copies.{overlap};
-ghost use Rattle.fw_files.specs.Opening.{AreCopiesIn};
+ghost use Rattle.fw_files.specs.Opening.{IsErased};
 ghost use Rattle.fw_files.specs.Said.{SaysSome};
-ghost use Rattle.fw_files.specs.Source.{IsSourceOf};
+ghost use Rattle.fw_files.specs.Source.{AreSettingsAt, IsSourceOf};
 
 use crate::copies::{ReadCopy, read_copy, share_a_byte};
 use crate::file_fault::{FileFault, value_or_say};
 use crate::file_texts::COPIES_OVERLAP;
 use crate::files::read_file;
 use crate::reasons::Explains;
+use crate::system::System;
+use device_files::{OpenDevice, Unknown};
 use envcfg_core::{Config, ConfigFault, Place, parse_config};
 use envimg_core::{Geometry, Layout, Order};
 use fw_engines::OUT_OF_MEMORY;
@@ -35,13 +37,14 @@ pub struct Source {
 }
 
 /// Reads the configuration. A fault is reported on `errors`.
-pub fn config_or_say<X: Files + AllocGlobal, E: Write>(
+pub fn config_or_say<X: System + AllocGlobal, E: Write>(
     rt: &X,
     path: &str,
     explains: Explains,
     errors: &mut E,
 ) -> Option<Config>
-    ensures { MatchOption result (SaysSome (E.contents errors.old) (E.contents errors.new)) (λ _. E.contents errors.new ≡ E.contents errors.old) }
+    ensures { MatchOption result (SaysSome (E.contents errors.old) (E.contents errors.new))
+        (λ config. AreSettingsAt (X.holds rt.now) path.now (config_view config) × (E.contents errors.new ≡ E.contents errors.old)) }
 {
     value_or_say(rt.alloc(), errors, explains, path, read_config(rt, path))
 }
@@ -82,7 +85,7 @@ pub fn erased_or_say<E: Write>(
     errors: &mut E,
 ) -> Option<Source>
     ensures { MatchOption result (SaysSome (E.contents errors.old) (E.contents errors.new))
-        (λ source. AreCopiesIn (Some size) order source × (E.contents errors.new ≡ E.contents errors.old)) }
+        (λ source. IsErased order size source × (E.contents errors.new ≡ E.contents errors.old)) }
 {
     // always `Some`: the size is one that a single image may have
     let geometry = Geometry::with_order(Layout::Single, size, order)?;
@@ -124,7 +127,9 @@ fn erased(alloc: Global, geometry: Geometry) -> Result<Source, AllocError>
 }
 
 /// Reads the configuration.
-fn read_config<X: Files + AllocGlobal>(rt: &X, path: &str) -> Result<Config, FileFault> {
+fn read_config<X: System + AllocGlobal>(rt: &X, path: &str) -> Result<Config, FileFault>
+    ensures { IfOk result (λ config. AreSettingsAt (X.holds rt.now) path.now (config_view config)) }
+{
     let text = read_file(rt, path)?;
     config_from(rt.alloc(), &text)
 }
@@ -161,7 +166,8 @@ fn read_or_say<X: Files + AllocGlobal, E: Write>(
 ) -> Option<ReadCopy>
     ensures { MatchOption result (SaysSome (E.contents errors.old) (E.contents errors.new)) (λ _. E.contents errors.new ≡ E.contents errors.old) }
 {
-    let copy = read_copy(rt, place, size);
+    let mut device: Option<OpenDevice<X::File, Unknown>> = None;
+    let copy = read_copy(rt, place, size, &mut device);
     value_or_say(rt.alloc(), errors, explains, place.device.as_str(), copy)
 }
 

@@ -1,7 +1,10 @@
-//! What the program asks of its system besides std's files: locks on open files, and whether somebody types the input.
+//! What the program asks of its system besides std's files: files that are read or made whole, locks on open files, and
+//! whether somebody types the input.
+ghost use Rattle.std.specs.Prelude.{IfOk};
+ghost use Rattle.fw_files.specs.FileTexts.{GivesHeld, Holds, TakesWritten};
 
-use std::fs::{File, TryLockError};
-use std::io::{IsTerminal, Stderr, Write};
+use std::fs::{File, OpenOptions, TryLockError};
+use std::io::{self, IsTerminal, Stderr, Write};
 use std::rt::Files;
 use std::thread;
 use std::time::{Clock, Duration, Instant};
@@ -33,6 +36,21 @@ pub enum Attempt {
 
 /// The system under the program. A test replaces it, as it does std's files.
 pub trait System: Files {
+    /// Which bytes the file at a path holds. No code can tell for any system, so a contract that says of a text that a file
+    /// holds it is met only by what that file gives when it is opened here and read to its end.
+    ghost holds: { Self → Holds };
+
+    /// Which bytes were written into the file at a path, emptied before.
+    ghost wrote: { Self → Holds };
+
+    /// Opens the file at a path to be read.
+    fn open_to_read(&self, path: &str) -> io::Result<Self::File>
+        ensures { IfOk result (GivesHeld Self.File Self.File.remaining (holds self.now path.now)) };
+
+    /// Opens the file at a path to be written, emptied, or made if it isn't there.
+    fn open_emptied(&self, path: &str) -> io::Result<Self::File>
+        ensures { IfOk result (TakesWritten Self.File Self.File.contents (wrote self.now path.now)) };
+
     /// Tries for a second to take the advisory lock on an open file, which lasts until the file is closed.
     fn try_lock(&self, file: &Self::File, hold: Hold) -> Attempt;
 
@@ -47,6 +65,22 @@ pub trait System: Files {
 }
 
 impl System for HostRuntime {
+    ghost holds = { λ _ _ _. Unit {0} };
+
+    ghost wrote = { λ _ _ _. Unit {0} };
+
+    fn open_to_read(&self, path: &str) -> io::Result<File> {
+        OpenOptions::new().read(true).open(self, path)
+    }
+
+    fn open_emptied(&self, path: &str) -> io::Result<File> {
+        OpenOptions::new()
+            .write(true)
+            .create(true)
+            .truncate(true)
+            .open(self, path)
+    }
+
     fn try_lock(&self, file: &File, hold: Hold) -> Attempt {
         let begun = Instant::now(self).ok();
         for _ in 0..TRIES {

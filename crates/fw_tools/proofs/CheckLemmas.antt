@@ -1,14 +1,17 @@
 -- The status of a check.
-use Rattle.std.proofs.Common.{◌≡◌, ◌≤◌, ℕ, Bool, true, false, List, [], Option, Some, None, inl, inr, arith, subst}
+use Rattle.std.proofs.Common.{◌≡◌, ◌≤◌, ℕ, Bool, true, false, List, [], ◌∷◌, ◌++◌, Option, Some, None, inl, inr, arith, ap, subst, sym, ◌∙◌}
 use Rattle.std.specs.Prelude.{MatchOption, if◌then◌else◌, is_some}
 use Rattle.std.specs.Io.KnownBytes.{Appends}
+use Rattle.std.proofs.lemmas.List.{map-append}
+use Rattle.std.proofs.ByRecursion.{All-push}
+use Rattle.clap.specs.Words.{Text}
 use Rattle.env_session.specs.Session.{Held}
 use Rattle.hush_commands.specs.Hardware.{Hardware}
 use Rattle.envimg_core.specs.Environment.{Environment}
 use Rattle.finding_kinds.specs.Choices.{Choice}
-use Rattle.fw_check.specs.Checking.{Checks, PrintsReport, is_failed, texts_of, with_none, with_types}
+use Rattle.fw_check.specs.Checking.{PrintsReport, is_failed, texts_of, with_whole}
 use Rattle.fw_check.specs.Called.{Given, given_with}
-use Rattle.fw_check.specs.FileChecks.{ChecksFiles, FileScript, paths_of}
+use Rattle.fw_check.specs.FileChecks.{Checks, ChecksFiles, FileScript, is_alone}
 use Rattle.fw_check.specs.Findings.{Report}
 use Rattle.fw_engines.specs.Streams.{AppendsPart, Writers}
 use Rattle.fw_engines.specs.Tool.{Prints, PrintsText, Texts, Writes, WritesPart}
@@ -16,9 +19,10 @@ use Rattle.fw_engines.specs.declared.tool_end.StreamFault.{StreamFault}
 use Rattle.fw_engines.specs.declared.tool_end.StreamFault.TheVariants.{Write}
 use Rattle.fw_engines.specs.declared.tool_end.ToolEnd.{ToolEnd}
 use Rattle.fw_arguments.specs.Checks.{EnvironmentCheck, FileCheck}
-use Rattle.fw_tools.specs.CheckRuns.{ChecksFile, ChecksOver, IsHardwareGiven, check_status, unchecked}
+use Rattle.fw_tools.specs.CheckRuns.{AddsScriptAt, AreScriptsAt, ChecksFile, ChecksOver, IsHardwareGiven, IsScriptAt, check_status, unchecked}
 use Rattle.fw_files.specs.KnownNames.{AreKnownOf}
 use Rattle.fw_files.specs.Said.{Says}
+use Rattle.fw_files.specs.FileTexts.{Holds}
 
 -- 1 if something counts, else 0
 flag_small : (failed : Bool) → (if failed then 1 else 0) ≤ 1
@@ -45,9 +49,9 @@ texts_small end old new texts small p = by_fault end.fault p
 prints_small : (old new : Writers) (report : Report) (end : ToolEnd) → PrintsReport old new report end → end.status ≤ 1
 prints_small old new report end p = texts_small end old new (texts_of report) (report_small report) p
 
-checks_small : (given : Given) (env : Environment) (choice : Choice) (names : List (List ℕ)) (old new : Writers) (end : ToolEnd) → Checks given env choice names old new end → end.status ≤ 1
-checks_small given env choice names old new end (inl (report, comes, prints)) = prints_small old new (with_types env (with_none report)) end prints
-checks_small given env choice names old new end (inr lacks) = omega (arith, lacks.2)
+checks_small : (given : Given) (env : Environment) (choice : Choice) (names : List (List ℕ)) (scripts : List FileScript) (old new : Writers) (end : ToolEnd) → Checks given env choice names scripts old new end → end.status ≤ 1
+checks_small given env choice names scripts old new end (inl (report, comes, prints)) = prints_small old new (with_whole (is_alone scripts) env report) end prints
+checks_small given env choice names scripts old new end (inr lacks) = omega (arith, lacks.2)
 
 file_checks_small : (given : Given) (choice : Choice) (scripts : List FileScript) (old new : Writers) (end : ToolEnd) → ChecksFiles given choice scripts old new end → end.status ≤ 1
 file_checks_small given choice scripts old new end (inl (report, comes, prints)) = prints_small old new report end prints
@@ -60,35 +64,49 @@ status_small end small = by_fault end.fault
     by_fault None = omega (arith, small)
     by_fault (Some f) = omega arith
 
-pub check_small : (check : EnvironmentCheck) (session : Held) (old new : Writers) (status : ℕ) → ChecksOver check session old new status → status ≤ unchecked
-check_small check session old new status (inl stopped) = omega (arith, stopped.1)
-check_small check session old new status (inr (h, known, read, named, (end, said, checks, says, ended))) =
-    omega (arith, ended, status_small end (checks_small (given_with check.shell h known) session.now.env check.choice check.names old (record { output = new.output; errors = said }) end checks))
+pub check_small : (holds : Holds) (check : EnvironmentCheck) (session : Held) (old new : Writers) (status : ℕ) → ChecksOver holds check session old new status → status ≤ unchecked
+check_small holds check session old new status (inl stopped) = omega (arith, stopped.1)
+check_small holds check session old new status (inr (h, known, scripts, read, named, paths, (end, said, checks, says, ended))) =
+    omega (arith, ended, status_small end (checks_small (given_with check.shell h known) session.now.env check.choice check.names scripts old (record { output = new.output; errors = said }) end checks))
 
-pub file_check_small : (check : FileCheck) (old new : Writers) (status : ℕ) → ChecksFile check old new status → status ≤ unchecked
-file_check_small check old new status (inl stopped) = omega (arith, stopped.1)
-file_check_small check old new status (inr (h, scripts, given, read, (end, said, checks, says, ended))) =
+pub file_check_small : (holds : Holds) (check : FileCheck) (old new : Writers) (status : ℕ) → ChecksFile holds check old new status → status ≤ unchecked
+file_check_small holds check old new status (inl stopped) = omega (arith, stopped.1)
+file_check_small holds check old new status (inr (h, scripts, given, read, (end, said, checks, says, ended))) =
     omega (arith, ended, status_small end (file_checks_small (given_with check.shell h []) check.choice scripts old (record { output = new.output; errors = said }) end checks))
 
 -- a check by these rules whose environment and names are these, with nothing printed before it
-pub checks-over : (check : EnvironmentCheck) (session : Held) (old new first : Writers) (status : ℕ) (h : Option Hardware) (known : List (List ℕ)) (given : Given) (env : Environment) (names : List (List ℕ)) (end : ToolEnd) (said : Option (List ℕ)) →
-    IsHardwareGiven check.stand_ins check.board h → AreKnownOf check.known known → Checks given env check.choice names first (record { output = new.output; errors = said }) end → first ≡ old → env ≡ session.now.env →
-    given ≡ given_with check.shell h known → names ≡ check.names → status ≡ check_status end → Says end.fault said new.errors → ChecksOver check session old new status
-checks-over check session old new first status h known given env names end said read named checks silent same_env same_rules same_names ended says =
+pub checks-over : (holds : Holds) (check : EnvironmentCheck) (session : Held) (old new first : Writers) (status : ℕ) (h : Option Hardware) (known : List (List ℕ)) (given : Given) (env : Environment) (names : List (List ℕ)) (scripts given_scripts : List FileScript) (end : ToolEnd) (said : Option (List ℕ)) →
+    IsHardwareGiven holds check.stand_ins check.board h → AreKnownOf holds check.known known → AreScriptsAt holds check.scripts given_scripts →
+    Checks given env check.choice names scripts first (record { output = new.output; errors = said }) end → first ≡ old → env ≡ session.now.env →
+    given ≡ given_with check.shell h known → names ≡ check.names → scripts ≡ given_scripts → status ≡ check_status end → Says end.fault said new.errors → ChecksOver holds check session old new status
+checks-over holds check session old new first status h known given env names scripts given_scripts end said read named paths checks silent same_env same_rules same_names same_scripts ended says =
     let after : Writers = record { output = new.output; errors = said } in
-    let zero = subst (λ f. Checks given env check.choice names f after end) silent checks in
-    let one = subst (λ e. Checks given e check.choice names old after end) same_env zero in
-    let two = subst (λ g. Checks g session.now.env check.choice names old after end) same_rules one in
-    let three = subst (λ ns. Checks (given_with check.shell h known) session.now.env check.choice ns old after end) same_names two in
-    inr (h, known, read, named, (end, said, three, says, ended))
+    let zero = subst (λ f. Checks given env check.choice names scripts f after end) silent checks in
+    let one = subst (λ e. Checks given e check.choice names scripts old after end) same_env zero in
+    let two = subst (λ g. Checks g session.now.env check.choice names scripts old after end) same_rules one in
+    let three = subst (λ ns. Checks (given_with check.shell h known) session.now.env check.choice ns scripts old after end) same_names two in
+    let four = subst (λ ss. Checks (given_with check.shell h known) session.now.env check.choice check.names ss old after end) same_scripts three in
+    inr (h, known, given_scripts, read, named, paths, (end, said, four, says, ended))
 
 -- the same of a check of scripts in files
-pub file-checks-over : (check : FileCheck) (old new first : Writers) (status : ℕ) (h : Option Hardware) (given : Given) (scripts given_scripts : List FileScript) (end : ToolEnd) (said : Option (List ℕ)) →
-    IsHardwareGiven check.stand_ins check.board h → paths_of given_scripts ≡ check.paths → ChecksFiles given check.choice scripts first (record { output = new.output; errors = said }) end → first ≡ old →
-    given ≡ given_with check.shell h [] → scripts ≡ given_scripts → status ≡ check_status end → Says end.fault said new.errors → ChecksFile check old new status
-file-checks-over check old new first status h given scripts given_scripts end said read paths checks silent same_rules same_scripts ended says =
+pub file-checks-over : (holds : Holds) (check : FileCheck) (old new first : Writers) (status : ℕ) (h : Option Hardware) (given : Given) (scripts given_scripts : List FileScript) (end : ToolEnd) (said : Option (List ℕ)) →
+    IsHardwareGiven holds check.stand_ins check.board h → AreScriptsAt holds check.paths given_scripts → ChecksFiles given check.choice scripts first (record { output = new.output; errors = said }) end → first ≡ old →
+    given ≡ given_with check.shell h [] → scripts ≡ given_scripts → status ≡ check_status end → Says end.fault said new.errors → ChecksFile holds check old new status
+file-checks-over holds check old new first status h given scripts given_scripts end said read paths checks silent same_rules same_scripts ended says =
     let after : Writers = record { output = new.output; errors = said } in
     let zero = subst (λ f. ChecksFiles given check.choice scripts f after end) silent checks in
     let one = subst (λ g. ChecksFiles g check.choice scripts old after end) same_rules zero in
     let two = subst (λ ss. ChecksFiles (given_with check.shell h []) check.choice ss old after end) same_scripts one in
     inr (h, given_scripts, read, paths, (end, said, two, says, ended))
+
+-- ---- scripts of files
+
+-- one more at the end
+pub file_added : (holds : Holds) (paths : List Text) (path : Text) (old new : List FileScript) → AreScriptsAt holds paths old → AddsScriptAt holds path old new →
+    AreScriptsAt holds (paths ++ path ∷ []) new
+file_added holds paths path old new (same, are) (text, held, grown) =
+    let script : FileScript = record { path = path; text = text } in
+    subst (AreScriptsAt holds (paths ++ path ∷ [])) (sym grown) (
+      map-append (λ (s : FileScript). s.path) old (script ∷ []) ∙ ap (λ ps. ps ++ path ∷ []) same,
+      All-push (IsScriptAt holds) old script are held,
+    )

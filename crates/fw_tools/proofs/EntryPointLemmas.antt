@@ -18,41 +18,42 @@ use Rattle.fw_files.specs.WrittenBack.{AreLeft, Devices}
 use Rattle.fw_arguments.specs.Report.{Asked, asked_of}
 use Rattle.fw_tools.specs.EntryPoint.{Does, LacksMemory, RepliesTo, Runs, ShowsAndSays, is_shown, refused_in, refused_status}
 use Rattle.fw_engines.specs.Streams.{Streams, writers_of}
+use Rattle.fw_files.specs.FileTexts.{Holds}
 
 -- what is done by the matches is done by the arguments
-pub done_by_words : (refused refused' : ℕ) (order order' : Order) (tool tool' : Option (Text × List Row)) (devices : Devices) (old new : Streams) (status : ℕ) →
-    Does refused order tool devices old new status → refused ≡ refused' → order ≡ order' → tool ≡ tool' → Does refused' order' tool' devices old new status
-done_by_words refused refused' order order' tool tool' devices old new status does same is calls =
-    subst (λ t. Does refused' order' t devices old new status) calls
-    (subst (λ o. Does refused' o tool devices old new status) is (subst (λ n. Does n order tool devices old new status) same does))
+pub done_by_words : (holds wrote : Holds) (refused refused' : ℕ) (order order' : Order) (tool tool' : Option (Text × List Row)) (devices : Devices) (old new : Streams) (status : ℕ) →
+    Does holds wrote refused order tool devices old new status → refused ≡ refused' → order ≡ order' → tool ≡ tool' → Does holds wrote refused' order' tool' devices old new status
+done_by_words holds wrote refused refused' order order' tool tool' devices old new status does same is calls =
+    subst (λ t. Does holds wrote refused' order' t devices old new status) calls
+    (subst (λ o. Does holds wrote refused' o tool devices old new status) is (subst (λ n. Does holds wrote n order tool devices old new status) same does))
 
 -- so for no arguments but this name what is done is to show the image
-pub alone_is_shown : (words : List Text) (devices : Devices) (old new : Streams) (status : ℕ) → name_in words ≡ Fwenv → length words ≤ 1 → AreLeft devices →
-    ShowsAndSays Little old new status → Runs words devices old new status
-alone_is_shown words devices old new status is short untouched shows =
+pub alone_is_shown : (holds wrote : Holds) (words : List Text) (devices : Devices) (old new : Streams) (status : ℕ) → name_in words ≡ Fwenv → length words ≤ 1 → AreLeft devices →
+    ShowsAndSays Little old new status → Runs holds wrote words devices old new status
+alone_is_shown holds wrote words devices old new status is short untouched shows =
     inl (
       ap (λ n. fault_of (app_of_name n) words) is ∙ alone_is_right words short,
-      done_by_words (refused_in words) (refused_in words) Little (order_of words) None (called_by words) devices old new status (shows, untouched) refl
+      done_by_words holds wrote (refused_in words) (refused_in words) Little (order_of words) None (called_by words) devices old new status (shows, untouched) refl
           (sym (ap (λ n. order_under n words) is ∙ alone_is_little words short)) (sym (ap (λ n. called_under n words) is ∙ alone_calls_nothing words short)),
     )
 
 -- and what is done by the matches under a name is done by the arguments that begin with it
-pub runs_by : (refused : ℕ) (name : ProgramName) (words : List Text) (m : ArgMatches) (devices : Devices) (old new : Streams) (status : ℕ) → refused ≡ refused_status name words → name ≡ name_in words → fault_of (app_of_name name) words ≡ [] →
-    order_in m ≡ order_under name words → called_in name m ≡ called_under name words → Does refused (order_in m) (called_in name m) devices old new status → Runs words devices old new status
-runs_by refused name words m devices old new status same is right order called does =
+pub runs_by : (holds wrote : Holds) (refused : ℕ) (name : ProgramName) (words : List Text) (m : ArgMatches) (devices : Devices) (old new : Streams) (status : ℕ) → refused ≡ refused_status name words → name ≡ name_in words → fault_of (app_of_name name) words ≡ [] →
+    order_in m ≡ order_under name words → called_in name m ≡ called_under name words → Does holds wrote refused (order_in m) (called_in name m) devices old new status → Runs holds wrote words devices old new status
+runs_by holds wrote refused name words m devices old new status same is right order called does =
     inl (
       subst (λ n. fault_of (app_of_name n) words ≡ []) is right,
-      done_by_words refused (refused_in words) (order_in m) (order_of words) (called_in name m) (called_by words) devices old new status does (same ∙ ap (λ n. refused_status n words) is) (order ∙ ap (λ n. order_under n words) is)
+      done_by_words holds wrote refused (refused_in words) (order_in m) (order_of words) (called_in name m) (called_by words) devices old new status does (same ∙ ap (λ n. refused_status n words) is) (order ∙ ap (λ n. order_under n words) is)
           (called ∙ ap (λ n. called_under n words) is),
     )
 
 -- what is reported of arguments under a name is reported of the arguments that begin with it
-pub replies_by : (refused : ℕ) (name : ProgramName) (words : List Text) (e : Error) (devices : Devices) (old new : Streams) (status : ℕ) → refused ≡ refused_status name words → name ≡ name_in words → HasKind (fault_of (app_of_name name) words) e →
-    AreLeft devices → new.input ≡ old.input → LacksMemory refused (writers_of old) (writers_of new) status ⊎ RepliesTo refused (kind_of e) (writers_of old) (writers_of new) status → Runs words devices old new status
-replies_by refused name words e devices old new status so is fails untouched same (inl lacks) = inr ((same, inl (subst (λ n. LacksMemory n (writers_of old) (writers_of new) status) (so ∙ ap (λ n. refused_status n words) is) lacks)), untouched)
-replies_by refused name words e devices old new status so is (inl lacks) untouched same (inr replies) =
+pub replies_by : (holds wrote : Holds) (refused : ℕ) (name : ProgramName) (words : List Text) (e : Error) (devices : Devices) (old new : Streams) (status : ℕ) → refused ≡ refused_status name words → name ≡ name_in words → HasKind (fault_of (app_of_name name) words) e →
+    AreLeft devices → new.input ≡ old.input → LacksMemory refused (writers_of old) (writers_of new) status ⊎ RepliesTo refused (kind_of e) (writers_of old) (writers_of new) status → Runs holds wrote words devices old new status
+replies_by holds wrote refused name words e devices old new status so is fails untouched same (inl lacks) = inr ((same, inl (subst (λ n. LacksMemory n (writers_of old) (writers_of new) status) (so ∙ ap (λ n. refused_status n words) is) lacks)), untouched)
+replies_by holds wrote refused name words e devices old new status so is (inl lacks) untouched same (inr replies) =
     inr ((same, inl (subst (λ n. LacksMemory n (writers_of old) (writers_of new) status) (so ∙ ap (λ n. refused_status n words) is) (subst (λ k. RepliesTo refused k (writers_of old) (writers_of new) status) lacks replies))), untouched)
-replies_by refused name words e devices old new status so is (inr among) untouched same (inr replies) =
+replies_by holds wrote refused name words e devices old new status so is (inr among) untouched same (inr replies) =
     inr (
       (
         same,
@@ -73,7 +74,7 @@ shown_under Printenv count shown = absurd cc
 shown_under Setenv count shown = absurd cc
 
 -- what a call does is what its arguments do
-pub called_does : (refused : ℕ) (order : Order) (called : Option (Text × List Row)) (name : Text) (rows : List Row) (call : Result Asked Text) (devices : Devices) (old new : Streams) (status : ℕ) →
-    called ≡ Some (name, rows) → call ≡ asked_of order name rows → Called refused call devices old new status → Does refused order called devices old new status
-called_does refused order called name rows call devices old new status is reads done =
-    subst (λ k. Does refused order k devices old new status) (sym is) (subst (λ r. Called refused r devices old new status) reads done)
+pub called_does : (holds wrote : Holds) (refused : ℕ) (order : Order) (called : Option (Text × List Row)) (name : Text) (rows : List Row) (call : Result Asked Text) (devices : Devices) (old new : Streams) (status : ℕ) →
+    called ≡ Some (name, rows) → call ≡ asked_of order name rows → Called holds wrote refused call devices old new status → Does holds wrote refused order called devices old new status
+called_does holds wrote refused order called name rows call devices old new status is reads done =
+    subst (λ k. Does holds wrote refused order k devices old new status) (sym is) (subst (λ r. Called holds wrote refused r devices old new status) reads done)

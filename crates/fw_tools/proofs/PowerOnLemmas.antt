@@ -1,7 +1,8 @@
 -- The status of power-ons.
-use Rattle.std.proofs.Common.{◌≡◌, ℕ, ◌≤◌, Bool, true, false, List, Option, Some, None, Result, Ok, Err, inl, inr, arith, subst, sym, ◌∙◌}
+use Rattle.std.proofs.Common.{◌≡◌, ℕ, ◌≤◌, Bool, true, false, List, [], ◌∷◌, ◌++◌, Option, Some, None, Result, Ok, Err, inl, inr, arith, subst, sym, ◌∙◌}
 use Rattle.std.specs.Prelude.{if◌then◌else◌, nat_lt, IfOk, MatchOption}
 use Rattle.std.specs.declared.alloc.AllocError.{AllocError}
+use Rattle.clap.specs.Words.{Text}
 use Rattle.envimg_core.specs.Geometry.{Shape, room_of}
 use Rattle.envvars_core.specs.Variables.{Contents}
 use Rattle.hush_syntax.specs.Grammar.{Chains}
@@ -22,8 +23,10 @@ use Rattle.boot_search.specs.SurveyText.{told_of}
 use Rattle.env_session.specs.Session.{Held}
 use Rattle.fw_arguments.specs.PowerOns.{PowerOns}
 use Rattle.fw_engines.specs.Streams.{Writers}
-use Rattle.fw_tools.specs.PowerOns.{BootsOver, IsToldOf, one_copy, power_for}
+use Rattle.fw_tools.specs.PowerOns.{AddsScriptOf, AreScriptsOf, BootsOver, IsScriptOf, IsToldOf, one_copy, power_for}
 use Rattle.fw_tools.proofs.CheckLemmas.{text_small}
+use Rattle.fw_files.specs.FileTexts.{Holds}
+use Rattle.fw_files.specs.Files.{IsTextAt}
 
 lost_small : (lost : Bool) → (if lost then 1 else 0) ≤ 1
 lost_small true = omega arith
@@ -33,13 +36,13 @@ known_small : (complete lost : Bool) → (if complete then (if lost then 1 else 
 known_small true lost = lost_small lost
 known_small false lost = omega arith
 
-pub boots_small : (asked : PowerOns) (session : Held) (old new : Writers) (status : ℕ) → BootsOver asked session old new status → status ≤ 1
-boots_small asked session old new status (inl stopped) = omega (arith, stopped.1)
-boots_small asked session old new status (inr (given, after, is, are, (end, inl (told, (tree, read, (survey, of, text, by)), prints), says, same))) =
+pub boots_small : (holds : Holds) (asked : PowerOns) (session : Held) (old new : Writers) (status : ℕ) → BootsOver holds asked session old new status → status ≤ 1
+boots_small holds asked session old new status (inl stopped) = omega (arith, stopped.1)
+boots_small holds asked session old new status (inr (given, after, is, are, (end, inl (told, (tree, read, (survey, of, text, by)), prints), says, same))) =
     let t = told_of survey in
     let small = subst (λ n. n ≤ 1) (sym by) (known_small t.complete (nat_lt 0 (unmarked t.boots))) in
     omega (arith, same, text_small end old.output new.output told.text.items told.status small prints)
-boots_small asked session old new status (inr (given, after, is, are, (end, inr (fault, kept, one), says, same))) = omega (arith, same, one)
+boots_small holds asked session old new status (inr (given, after, is, are, (end, inr (fault, kept, one), says, same))) = omega (arith, same, one)
 
 -- one copy has the room of the session's
 pub same_room : (shape : Shape) → room_of (one_copy shape) ≡ room_of shape
@@ -59,10 +62,23 @@ pub tells : (asked : PowerOns) (given : Hardware) (after : List (Option Chains))
 tells asked given after session tree power (Ok told) reads is told_as = (tree, reads, subst (λ p. BootsAs asked.dot p asked.ways told) is told_as)
 tells asked given after session tree power (Err e) reads is told_as = tt
 
--- a text that is no script is reported
-pub refused : (bodies : Bodies) (name text : List ℕ) (old mid new : Option (List ℕ)) (r : Option Script) → mid ≡ old →
+-- a script of a file, or a text that is none is reported
+pub refused : (holds : Holds) (bodies : Bodies) (path name text : List ℕ) (old mid new : Option (List ℕ)) (r : Option Script) → IsTextAt holds path text → mid ≡ old →
     MatchOption r (Refuses bodies name text mid new) (λ script. (read_in bodies text ≡ Some (tree_of script)) × (new ≡ mid)) →
-    MatchOption r (SaysSome old new) (λ script. new ≡ old)
-refused bodies name text old mid new (Some script) same (read, kept) = kept ∙ same
-refused bodies name text old mid new None same (inl (front, rest, is, appends)) = subst (λ e. SaysSome e new) same (front, appends)
-refused bodies name text old mid new None same (inr (fault, unread, of, (front, rest, is, appends))) = subst (λ e. SaysSome e new) same (front, appends)
+    MatchOption r (SaysSome old new) (λ script. IsScriptOf holds bodies path (tree_of script) × (new ≡ old))
+refused holds bodies path name text old mid new (Some script) held same (read, kept) = ((text, held, read), kept ∙ same)
+refused holds bodies path name text old mid new None held same (inl (front, rest, is, appends)) = subst (λ e. SaysSome e new) same (front, appends)
+refused holds bodies path name text old mid new None held same (inr (fault, unread, of, (front, rest, is, appends))) = subst (λ e. SaysSome e new) same (front, appends)
+
+-- ---- scripts of files
+
+-- one more at the end
+pub script_added : (holds : Holds) (bodies : Bodies) (paths : List Text) (path : Text) (old new : List (Option Chains)) → AreScriptsOf holds bodies paths old →
+    AddsScriptOf holds bodies path old new → AreScriptsOf holds bodies (paths ++ path ∷ []) new
+script_added holds bodies paths path old new are (tree, is, grown) = subst (AreScriptsOf holds bodies (paths ++ path ∷ [])) (sym grown) (behind paths old are)
+  where
+    behind : (ps : List Text) (ts : List (Option Chains)) → AreScriptsOf holds bodies ps ts → AreScriptsOf holds bodies (ps ++ path ∷ []) (ts ++ tree ∷ [])
+    behind [] [] none = (is, tt)
+    behind (p ∷ ps) (t ∷ ts) (first, rest) = (first, behind ps ts rest)
+    behind [] (t ∷ ts) never = absurd never
+    behind (p ∷ ps) [] never = absurd never

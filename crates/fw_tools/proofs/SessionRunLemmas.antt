@@ -17,11 +17,12 @@ use Rattle.fw_tools.specs.SessionRun.{ClosesDryRun, Reports, TriesOver, TriesWit
 use Rattle.fw_tools.specs.WantedHardware.{IsHardwareOf}
 use Rattle.fw_engines.specs.Streams.{AppendsFront, Streams}
 use Rattle.fw_tools.proofs.WarnLemmas.{may_warn}
+use Rattle.fw_files.specs.FileTexts.{Holds}
 
-pub tried_over : (run : DryRun) (source : Source) (session : Held) (devices : Devices) (old : Streams) (given : Hardware) (errors : Option (List ℕ)) (new : Streams) (status : ℕ) →
-    IsHardwareOf false run given → errors ≡ old.errors → TriesWith run given source session devices (record { input = old.input; output = old.output; errors = errors }) new status →
-    TriesOver run source session devices old new status
-tried_over run source session devices old given errors new status is same tries =
+pub tried_over : (holds : Holds) (run : DryRun) (source : Source) (session : Held) (devices : Devices) (old : Streams) (given : Hardware) (errors : Option (List ℕ)) (new : Streams) (status : ℕ) →
+    IsHardwareOf holds false run given → errors ≡ old.errors → TriesWith run given source session devices (record { input = old.input; output = old.output; errors = errors }) new status →
+    TriesOver holds run source session devices old new status
+tried_over holds run source session devices old given errors new status is same tries =
     inr (given, is, subst (λ e. TriesWith run given source session devices (record { input = old.input; output = old.output; errors = e }) new status) same tries)
 
 -- the copies are left as they are

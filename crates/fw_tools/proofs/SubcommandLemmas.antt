@@ -1,9 +1,11 @@
 -- What a subcommand does, put together, and its status.
 use Rattle.std.proofs.Common.{◌≡◌, ◌⊎◌, ◌≤◌, ℕ, zero, suc, Bool, true, false, List, [], ◌∷◌, ◌++◌, Option, Some, None, inl, inr, refl, sym, ap, ◌∙◌, subst, arith}
-use Rattle.std.specs.Prelude.{◌==◌, ◌&&◌, not, map, MatchOption, if◌then◌else◌, length, unwrap_or}
+use Rattle.std.specs.Prelude.{◌==◌, ◌&&◌, not, is_some, option_map, map, MatchOption, if◌then◌else◌, length, unwrap_or}
 use Rattle.env_session.specs.Requests.{entry_in, refusal_in}
 use Rattle.std.specs.FinMap as env
 use Rattle.env_session.specs.Session.{Held, last_changed_names, written}
+use Rattle.envcfg_core.specs.Config.{config_view, place_view}
+use Rattle.envcfg_core.specs.declared.config.Config.{Config}
 use Rattle.envcfg_core.specs.Entries as text_entries
 use Rattle.envcfg_core.specs.Entries.{entry_view}
 use Rattle.envcfg_core.specs.declared.entry.TextEntry.{TextEntry}
@@ -33,7 +35,7 @@ use Rattle.fw_engines.specs.Streams.{AppendsFront}
 use Rattle.fw_files.proofs.SaidLemmas.{front_said}
 use Rattle.fw_files.specs.Said.{SaysSome}
 use Rattle.fw_files.specs.WantedCopy.{IsWantedIn, SaysRefusal, refusal_of}
-use Rattle.fw_files.specs.Source.{IsTaken, second_bytes}
+use Rattle.fw_files.specs.Source.{AreSettingsAt, IsSourceOf, IsTaken, second_bytes}
 use Rattle.fw_files.specs.declared.source.Source.{Source}
 use Rattle.fw_arguments.specs.declared.task.Printing.{Printing}
 use Rattle.fw_arguments.specs.declared.task.Printing.TheVariants.{Lines, OneValue, Values}
@@ -49,19 +51,30 @@ use Rattle.fw_engines.specs.Tool.{Printed, Prints, Texts, Writes, WritesPart}
 use Rattle.fw_engines.specs.declared.tool_end.StreamFault.{StreamFault}
 use Rattle.fw_engines.specs.declared.tool_end.StreamFault.TheVariants.{Read, Write, Memory}
 use Rattle.fw_engines.specs.declared.tool_end.ToolEnd.{ToolEnd}
+use Rattle.fw_files.specs.FileTexts.{Holds}
 
 -- the entries of a set script as names and values
 pub pairs_in : (entries : List TextEntry) → map pair_of (map entry_view entries) ≡ map entry_in entries
 pairs_in [] = refl
 pairs_in (e ∷ es) = ap (λ others. entry_in e ∷ others) (pairs_in es)
 
+-- the copies that a configuration names
+mapped : {A B : Type 0} (f : A → B) (o : Option A) → is_some (option_map f o) ≡ is_some o
+mapped f None = refl
+mapped f (Some a) = refl
+
+pub configured : (holds : Holds) (path : List ℕ) (order : Order) (config : Config) (source : Source) → AreSettingsAt holds path (config_view config) → IsSourceOf order config source →
+    AreCopiesIn holds path None order source
+configured holds path order config source settings is =
+    (config_view config, settings, is.geometry, mapped (λ c. c.bytes.items) source.second ∙ is.second ∙ sym (mapped place_view config.second))
+
 -- the copy that is asked for, in the place of each that was read
-pub wanted_so : (image : Option ℕ) (order : Order) (wanted : WantedCopy) (read source : Source) → AreCopiesIn image order read → IsWantedIn wanted read source →
-    AreWantedIn image order wanted source
-wanted_so image order wanted read source copies (good, placed) = (
+pub wanted_so : (holds : Holds) (config : List ℕ) (image : Option ℕ) (order : Order) (wanted : WantedCopy) (read source : Source) → AreCopiesIn holds config image order read → IsWantedIn wanted read source →
+    AreWantedIn holds config image order wanted source
+wanted_so holds config image order wanted read source copies (good, placed) = (
   read.first.bytes.items,
   second_bytes read.second,
-  subst (λ shape. AreCopies image order shape read.first.bytes.items (second_bytes read.second)) (sym placed.geometry) copies,
+  subst (λ shape. AreCopies holds config image order shape read.first.bytes.items (second_bytes read.second)) (sym placed.geometry) copies,
   subst (λ shape. refusal_of wanted shape read.first.bytes.items (second_bytes read.second) ≡ None) (sym placed.geometry) good,
   placed.first,
   placed.second,
@@ -74,19 +87,19 @@ refusal_said (Some line) a b text (inl said) = front_said a b line said
 refusal_said line a b text (inr said) = front_said a b text said
 
 -- a session was opened, with or without a warning, and worked on
-pub opened_session : (call : Call) (asked : Defaults) (devices : Devices) (old : Streams) (waited : Option (List ℕ)) (source : Source) (session : Held) (warned : Option (List ℕ)) (new : Streams) (status : ℕ) →
-    HasWaited old.errors waited → IsTaken session.now.current call.defaults asked → IsOpening call.image call.order call.copy (spares call) asked source session →
+pub opened_session : (holds : Holds) (call : Call) (asked : Defaults) (devices : Devices) (old : Streams) (waited : Option (List ℕ)) (source : Source) (session : Held) (warned : Option (List ℕ)) (new : Streams) (status : ℕ) →
+    HasWaited old.errors waited → IsTaken session.now.current call.defaults asked → IsOpening holds call.config call.image call.order call.copy (spares call) asked source session →
     IsAccepted asked session waited warned →
-    DoesJob call.only_changes call.job source session devices (record { input = old.input; output = old.output; errors = warned }) new status → Uses call devices old new status
-opened_session call asked devices old waited source session warned new status has found opening accepted does =
+    DoesJob holds call.only_changes call.job source session devices (record { input = old.input; output = old.output; errors = warned }) new status → Uses holds call devices old new status
+opened_session holds call asked devices old waited source session warned new status has found opening accepted does =
     inr (waited, asked, source, session, warned, has, found, opening, accepted, does)
 
 -- what was done for a job, once it is known which that is
-pub job_done : (only_changes : Bool) (job known : asked_jobs.Job) (source : Source) (session : Held) (devices : Devices) (old new : Streams) (r : Option ℕ) → job ≡ known →
-    DoesJob only_changes (job_view known) source session devices old new (unwrap_or r (stopped_status (job_view known))) →
-    DoesJob only_changes (job_view job) source session devices old new (unwrap_or r (stopped_status (job_view job)))
-job_done only_changes job known source session devices old new r is does =
-    subst (λ (j : asked_jobs.Job). DoesJob only_changes (job_view j) source session devices old new (unwrap_or r (stopped_status (job_view j)))) (sym is) does
+pub job_done : (holds : Holds) (only_changes : Bool) (job known : asked_jobs.Job) (source : Source) (session : Held) (devices : Devices) (old new : Streams) (r : Option ℕ) → job ≡ known →
+    DoesJob holds only_changes (job_view known) source session devices old new (unwrap_or r (stopped_status (job_view known))) →
+    DoesJob holds only_changes (job_view job) source session devices old new (unwrap_or r (stopped_status (job_view job)))
+job_done holds only_changes job known source session devices old new r is does =
+    subst (λ (j : asked_jobs.Job). DoesJob holds only_changes (job_view j) source session devices old new (unwrap_or r (stopped_status (job_view j)))) (sym is) does
 
 -- by what a task is known to change
 pub kept_if : (r only_changes changing : Bool) (current : Choice) (touched : ℕ) (b : Bool) (task : Task) (opened after : Held) → r ≡ is_left changing only_changes current touched →
@@ -98,11 +111,11 @@ kept_if r only_changes changing current touched b task opened after is does was 
     )
 
 -- a tool's task was done, and the session closed
-pub used_tool : (only_changes kept : Bool) (task : Task) (source : Source) (session : Held) (devices : Devices) (old : Writers) (after : Scene) (end : ToolEnd) (errors : Option (List ℕ)) (status : ℕ) →
-    Acts task (record { session = session; writers = old }) after end → kept ≡ is_kept only_changes task session after.session →
+pub used_tool : (holds : Holds) (only_changes kept : Bool) (task : Task) (source : Source) (session : Held) (devices : Devices) (old : Writers) (after : Scene) (end : ToolEnd) (errors : Option (List ℕ)) (status : ℕ) →
+    Acts holds task (record { session = session; writers = old }) after end → kept ≡ is_kept only_changes task session after.session →
     Closes kept choices.Second source after.session end devices after.writers.errors errors status →
-    UsesTool only_changes task source session devices old (record { output = after.writers.output; errors = errors }) status
-used_tool only_changes kept task source session devices old after end errors status acts is closes =
+    UsesTool holds only_changes task source session devices old (record { output = after.writers.output; errors = errors }) status
+used_tool holds only_changes kept task source session devices old after end errors status acts is closes =
     inr (after, end, acts, refl, subst (λ k. Closes k choices.Second source after.session end devices after.writers.errors errors status) is closes)
 
 -- each status is 0 or 1
@@ -164,13 +177,13 @@ count_small : (n : ℕ) → count_status n ≤ 1
 count_small zero = omega arith
 count_small (suc n) = omega arith
 
-acts_small : (task : Task) (old new : Scene) (end : ToolEnd) → Acts task old new end → end.status ≤ 1
-acts_small (Task.Print names printing) old new end acts = printed_small end.fault _ _ _ end.status (so_small printing old.session.now.env names) acts.1
-acts_small (Task.Set name words) old new end acts = ends_small end.fault _ _ _ _ end.status (unless_small (refusal_in old.session name _ false) name old.session _ (omega arith)) acts.1
-acts_small (Task.SetScript path) old new end acts = ends_small end.fault _ _ _ _ end.status (script_small old.session (map pair_of acts.1)) acts.2.1.1
-acts_small (Task.Import path) old new end acts = ends_small end.fault _ _ _ _ end.status (count_small _) acts.2.1.1
-acts_small Task.Export old new end acts = printed_small end.fault _ _ _ end.status (for_small (export_texts old.session.now.env).errors) acts.1
-acts_small (Task.Restore path) old new end acts = ends_small end.fault _ _ _ _ end.status (restore_small old.session acts.1) acts.2.1.1
+acts_small : (holds : Holds) (task : Task) (old new : Scene) (end : ToolEnd) → Acts holds task old new end → end.status ≤ 1
+acts_small holds (Task.Print names printing) old new end acts = printed_small end.fault _ _ _ end.status (so_small printing old.session.now.env names) acts.1
+acts_small holds (Task.Set name words) old new end acts = ends_small end.fault _ _ _ _ end.status (unless_small (refusal_in old.session name _ false) name old.session _ (omega arith)) acts.1
+acts_small holds (Task.SetScript path) old new end acts = ends_small end.fault _ _ _ _ end.status (script_small old.session (map pair_of acts.0)) acts.1.1.1
+acts_small holds (Task.Import path) old new end acts = ends_small end.fault _ _ _ _ end.status (count_small _) acts.1.1.1
+acts_small holds Task.Export old new end acts = printed_small end.fault _ _ _ end.status (for_small (export_texts old.session.now.env).errors) acts.1
+acts_small holds (Task.Restore path) old new end acts = ends_small end.fault _ _ _ _ end.status (restore_small old.session acts.0) acts.1.1.1
 
 closes_small : (kept : Bool) (last : Choice) (source : Source) (session : Held) (end : ToolEnd) (devices : Devices) (old new : Option (List ℕ)) (status : ℕ) → end.status ≤ 1 →
     Closes kept last source session end devices old new status → status ≤ 1
@@ -178,11 +191,11 @@ closes_small true last source session end devices old new status small (safe, in
 closes_small true last source session end devices old new status small (safe, inr (warned, warns, closed, is, kept)) = omega (arith, is, small)
 closes_small false last source session end devices old new status small (said, is, left) = omega (arith, is, small)
 
-tool_small : (only_changes : Bool) (task : Task) (source : Source) (session : Held) (devices : Devices) (old new : Writers) (status : ℕ) →
-    UsesTool only_changes task source session devices old new status → status ≤ 1
-tool_small only_changes task source session devices old new status (inl (stopped, left)) = omega (arith, stopped.1)
-tool_small only_changes task source session devices old new status (inr (after, end, acts, same, closes)) =
-    closes_small _ _ source after.session end devices _ _ status (acts_small task _ after end acts) closes
+tool_small : (holds : Holds) (only_changes : Bool) (task : Task) (source : Source) (session : Held) (devices : Devices) (old new : Writers) (status : ℕ) →
+    UsesTool holds only_changes task source session devices old new status → status ≤ 1
+tool_small holds only_changes task source session devices old new status (inl (stopped, left)) = omega (arith, stopped.1)
+tool_small holds only_changes task source session devices old new status (inr (after, end, acts, same, closes)) =
+    closes_small _ _ source after.session end devices _ _ status (acts_small holds task _ after end acts) closes
 
 reports_small : (text : Option (List ℕ)) (old new : Option (List ℕ)) (status : ℕ) → Reports text old new status → status ≤ 1
 reports_small None old new status (same, is) = omega (arith, is)
@@ -213,23 +226,23 @@ texts_small must_boot course =
     let unbooted = must_boot && not (has_booted course.departure) in
     either_small (not (is_well outcome.ending outcome.status)) badly (if unbooted then without else well) (omega arith) (either_small unbooted without well (omega arith) (omega arith))
 
-script_run_small : (run : ScriptRun) (source : Source) (session : Held) (devices : Devices) (old new : Writers) (status : ℕ) → RunsOver run source session devices old new status → status ≤ 1
-script_run_small run source session devices old new status (inl (stopped, left)) = omega (arith, stopped.1)
-script_run_small run source session devices old new status (inr (stand_ins, text, stand, is, inl (same, refuses, one, left))) = omega (arith, one)
-script_run_small run source session devices old new status (inr (stand_ins, text, stand, is, inr (tree, reads, r))) =
+script_run_small : (holds : Holds) (run : ScriptRun) (source : Source) (session : Held) (devices : Devices) (old new : Writers) (status : ℕ) → RunsOver holds run source session devices old new status → status ≤ 1
+script_run_small holds run source session devices old new status (inl (stopped, left)) = omega (arith, stopped.1)
+script_run_small holds run source session devices old new status (inr (stand_ins, text, stand, is, inl (same, refuses, one, left))) = omega (arith, one)
+script_run_small holds run source session devices old new status (inr (stand_ins, text, stand, is, inr (tree, reads, r))) =
     closes_small (ScriptRuns.is_kept run.dry.write r.2) _ source r.0 r.2.end devices r.1 new.errors status
     (run_small r.2.end.fault r.2.end.status (record { output = old.output; errors = r.3.0 }) (record { output = new.output; errors = r.1 }) (course_texts run.must_boot r.3.2.0) (texts_small run.must_boot r.3.2.0) r.3.2.5)
     r.4
 
-job_small : (only_changes : Bool) (job : Job) (source : Source) (session : Held) (devices : Devices) (old new : Streams) (status : ℕ) →
-    DoesJob only_changes job source session devices old new status → status ≤ stopped_status job
-job_small only_changes (Tool task) source session devices old new status (unread, uses) = tool_small only_changes task source session devices _ _ status uses
-job_small only_changes (Tries run) source session devices old new status (inl (unread, stopped, left)) = omega (arith, stopped.1)
-job_small only_changes (Tries run) source session devices old new status (inr (stand_ins, stand, tries)) =
+job_small : (holds : Holds) (only_changes : Bool) (job : Job) (source : Source) (session : Held) (devices : Devices) (old new : Streams) (status : ℕ) →
+    DoesJob holds only_changes job source session devices old new status → status ≤ stopped_status job
+job_small holds only_changes (Tool task) source session devices old new status (unread, uses) = tool_small holds only_changes task source session devices _ _ status uses
+job_small holds only_changes (Tries run) source session devices old new status (inl (unread, stopped, left)) = omega (arith, stopped.1)
+job_small holds only_changes (Tries run) source session devices old new status (inr (stand_ins, stand, tries)) =
     leaves_small (SessionRun.is_kept run.write tries.0) tries.0 source tries.3.held devices _ _ status tries.5
-job_small only_changes (Runs run) source session devices old new status (unread, runs) = script_run_small run source session devices _ _ status runs
-job_small only_changes (Boots power_ons) source session devices old new status (unread, boots, left) = boots_small power_ons session _ _ status boots
-job_small only_changes (Checks check) source session devices old new status (unread, checks, left) = check_small check session _ _ status checks
+job_small holds only_changes (Runs run) source session devices old new status (unread, runs) = script_run_small holds run source session devices _ _ status runs
+job_small holds only_changes (Boots power_ons) source session devices old new status (unread, boots, left) = boots_small holds power_ons session _ _ status boots
+job_small holds only_changes (Checks check) source session devices old new status (unread, checks, left) = check_small holds check session _ _ status checks
 
 pub stopped_small : (job : Job) → stopped_status job ≤ unchecked
 stopped_small (Tool task) = omega arith
@@ -238,10 +251,10 @@ stopped_small (Runs run) = omega arith
 stopped_small (Boots power_ons) = omega arith
 stopped_small (Checks check) = omega arith
 
-pub uses_small : (call : Call) (devices : Devices) (old new : Streams) (status : ℕ) → Uses call devices old new status → status ≤ stopped_status call.job
-uses_small call devices old new status (inl (unread, said, is, left)) = omega (arith, is)
-uses_small call devices old new status (inr (waited, asked, source, session, warned, has, found, opening, accepted, does)) =
-    job_small call.only_changes call.job source session devices _ new status does
+pub uses_small : (holds : Holds) (call : Call) (devices : Devices) (old new : Streams) (status : ℕ) → Uses holds call devices old new status → status ≤ stopped_status call.job
+uses_small holds call devices old new status (inl (unread, said, is, left)) = omega (arith, is)
+uses_small holds call devices old new status (inr (waited, asked, source, session, warned, has, found, opening, accepted, does)) =
+    job_small holds call.only_changes call.job source session devices _ new status does
 
 -- ---- texts that are made first and then written
 

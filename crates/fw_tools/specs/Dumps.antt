@@ -7,6 +7,8 @@ use Rattle.fw_engines.specs.Tool.{PrintsText}
 use Rattle.fw_engines.specs.declared.tool_end.ToolEnd.{ToolEnd}
 use Rattle.fw_engines.specs.declared.tool_end.StreamFault.TheVariants.{Memory}
 use Rattle.fw_files.specs.Said.{Says, Stops}
+use Rattle.fw_files.specs.FileTexts.{Holds}
+use Rattle.fw_files.specs.Files.{IsTextAt}
 
 -- the lines for a dump are printed, or less than these; or memory ran out before
 abbrev pub PrintsDump : (path dump : List ℕ) → Option (List ℕ) → Option (List ℕ) → ToolEnd → Type 0
@@ -18,8 +20,8 @@ abbrev pub ReportsDump : (path dump : List ℕ) → Writers → Writers → ℕ 
 ReportsDump path dump old new status =
     (end : ToolEnd) × PrintsDump path dump old.output new.output end × Says end.fault old.errors new.errors × (status ≡ end.status)
 
--- for some bytes, which the file at that path has; or before that it can't be read, or memory runs out
-abbrev pub Finds : (path : List ℕ) → Writers → Writers → ℕ → Type 0
-Finds path old new status =
+-- for the bytes of the file at that path; or before that it can't be read, or memory runs out
+abbrev pub Finds : Holds → (path : List ℕ) → Writers → Writers → ℕ → Type 0
+Finds holds path old new status =
     Stops old new status
-    ⊎ ((dump : List ℕ) × ReportsDump path dump old new status)
+    ⊎ ((dump : List ℕ) × IsTextAt holds path dump × ReportsDump path dump old new status)

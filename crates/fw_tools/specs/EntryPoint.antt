@@ -21,6 +21,7 @@ use Rattle.fw_arguments.specs.declared.program_name.ProgramName.{ProgramName}
 use Rattle.fw_arguments.specs.declared.program_name.ProgramName.TheVariants.{Fwenv, Printenv, Setenv}
 use Rattle.fw_engines.specs.declared.tool_end.ToolEnd.{ToolEnd}
 use Rattle.fw_engines.specs.declared.tool_end.StreamFault.TheVariants.{Write, Memory}
+use Rattle.fw_files.specs.FileTexts.{Holds}
 
 -- the text on standard error if the arguments can't be read
 abbrev pub message_without_words : io_error.ErrorKind → List ℕ
@@ -100,12 +101,12 @@ RepliesToWords words old new status =
 
 -- what is done for arguments that clap's rules accept: a subcommand is called, or the image on standard input
 -- is shown in the byte order that they choose
-abbrev pub Does : (refused : ℕ) → Order → Option (Text × List Row) → Devices → Streams → Streams → ℕ → Type 0
-Does refused order (Some called) devices old new status = Called refused (asked_of order called.0 called.1) devices old new status
-Does refused order None devices old new status = ShowsAndSays order old new status × AreLeft devices
+abbrev pub Does : (holds wrote : Holds) → (refused : ℕ) → Order → Option (Text × List Row) → Devices → Streams → Streams → ℕ → Type 0
+Does holds wrote refused order (Some called) devices old new status = Called holds wrote refused (asked_of order called.0 called.1) devices old new status
+Does holds wrote refused order None devices old new status = ShowsAndSays order old new status × AreLeft devices
 
 -- a whole run
-abbrev pub Runs : List Text → Devices → Streams → Streams → ℕ → Type 0
-Runs words devices old new status =
-    ((faults words ≡ []) × Does (refused_in words) (order_of words) (called_by words) devices old new status)
+abbrev pub Runs : (holds wrote : Holds) → List Text → Devices → Streams → Streams → ℕ → Type 0
+Runs holds wrote words devices old new status =
+    ((faults words ≡ []) × Does holds wrote (refused_in words) (order_of words) (called_by words) devices old new status)
     ⊎ (RepliesToWords words old new status × AreLeft devices)

@@ -11,7 +11,8 @@ use Rattle.fw_engines.specs.Streams.{Writers}
 use Rattle.fw_engines.specs.Tool.{PrintsText}
 use Rattle.fw_engines.specs.declared.tool_end.ToolEnd.{ToolEnd}
 use Rattle.fw_files.specs.Said.{Says, Stops}
-use Rattle.fw_files.specs.Source.{AreDefaultsFrom}
+use Rattle.fw_files.specs.Source.{AreDefaultsAt}
+use Rattle.fw_files.specs.FileTexts.{Holds}
 
 -- a copy that was never written
 abbrev pub erased : Shape → List ℕ
@@ -37,18 +38,18 @@ image_bytes shape both env = placed (erased_second shape) both (image_of shape 1
 abbrev pub shape_for : ImageRequest → Shape
 shape_for asked = record { layout = asked.layout; size = asked.size; order = asked.order }
 
--- it is printed, and what stopped that is reported; or it is written into a file, of which a contract knows nothing
-abbrev pub PutsOut : Option (List ℕ) → (image : List ℕ) → Writers → Writers → ℕ → Type 0
-PutsOut None image old new status =
+-- it is printed, and what stopped that is reported; or it is written into a file
+abbrev pub PutsOut : (wrote : Holds) → Option (List ℕ) → (image : List ℕ) → Writers → Writers → ℕ → Type 0
+PutsOut wrote None image old new status =
     (end : ToolEnd) × PrintsText old.output new.output image 0 end × Says end.fault old.errors new.errors × (status ≡ end.status)
-PutsOut (Some path) image old new status = (new ≡ old) × (status ≡ 0)
+PutsOut wrote (Some path) image old new status = wrote path image × (new ≡ old) × (status ≡ 0)
 
-abbrev pub PutsOutOrStops : Option (List ℕ) → (image : List ℕ) → Writers → Writers → ℕ → Type 0
-PutsOutOrStops output image old new status = Stops old new status ⊎ PutsOut output image old new status
+abbrev pub PutsOutOrStops : (wrote : Holds) → Option (List ℕ) → (image : List ℕ) → Writers → Writers → ℕ → Type 0
+PutsOutOrStops wrote output image old new status = Stops old new status ⊎ PutsOut wrote output image old new status
 
--- the image of some text's variables; or before that a file can't be used, or memory runs out
-abbrev pub MakesImage : ImageRequest → Writers → Writers → ℕ → Type 0
-MakesImage asked old new status =
+-- the image of the variables of the text at a path; or before that a file can't be used, or memory runs out
+abbrev pub MakesImage : (holds wrote : Holds) → ImageRequest → Writers → Writers → ℕ → Type 0
+MakesImage holds wrote asked old new status =
     Stops old new status
-    ⊎ ((vars : Contents) × AreDefaultsFrom asked.text.form (room_of (shape_for asked)) vars
-    × PutsOut asked.output (image_bytes (shape_for asked) asked.both vars.env) old new status)
+    ⊎ ((vars : Contents) × AreDefaultsAt holds asked.text.path asked.text.form (room_of (shape_for asked)) vars
+    × PutsOut wrote asked.output (image_bytes (shape_for asked) asked.both vars.env) old new status)

@@ -1,5 +1,5 @@
 -- What `boot` does over a session (docs/boot.md).
-use Rattle.std.specs.Prelude.{◌≡◌, ◌⊎◌, ◌+◌, ℕ, Bool, true, false, List, length, Option, Some, None}
+use Rattle.std.specs.Prelude.{◌≡◌, ◌⊎◌, ◌+◌, ◌++◌, ℕ, Bool, true, false, List, [], ◌∷◌, Option, Some, None}
 use Rattle.std.specs.Io.KnownBytes.{Keeps}
 use Rattle.env_session.specs.Session.{Held}
 use Rattle.envimg_core.specs.Geometry.{Shape, room_of}
@@ -7,6 +7,7 @@ use Rattle.envimg_core.specs.declared.geometry.Layout.TheVariants.{Single}
 use Rattle.envimg_core.specs.declared.geometry.Order.TheVariants.{Little}
 use Rattle.hush_syntax.specs.Grammar.{Chains}
 use Rattle.hush_syntax.specs.Reading.{read_in}
+use Rattle.hush_syntax.specs.declared.nodes.Bodies.{Bodies}
 use Rattle.clap.specs.Words.{Text}
 use Rattle.hush_commands.specs.Hardware.{Hardware}
 use Rattle.hush_run.specs.Meaning.{bodies_of}
@@ -23,14 +24,25 @@ use Rattle.fw_engines.specs.declared.tool_end.StreamFault.TheVariants.{Memory}
 use Rattle.fw_files.specs.Said.{Says, Stops}
 use Rattle.fw_tools.specs.NewImages.{image_bytes}
 use Rattle.fw_tools.specs.WantedHardware.{IsHardwareOf}
+use Rattle.fw_files.specs.FileTexts.{Holds}
+use Rattle.fw_files.specs.Files.{IsTextAt}
 
 -- one copy that has the room of the session's
 abbrev pub one_copy : Shape → Shape
 one_copy shape = record { layout = Single; size = room_of shape + 4; order = Little }
 
--- a script of each of these files: a contract knows nothing of what is in one
-abbrev pub AreScriptsOf : (paths : List Text) → List (Option Chains) → Type 0
-AreScriptsOf paths trees = length trees ≡ length paths
+-- the scripts at these paths, each read by the rules of the shell
+abbrev pub IsScriptOf : Holds → Bodies → (path : Text) → Option Chains → Type 0
+IsScriptOf holds bodies path tree = (text : List ℕ) × IsTextAt holds path text × (read_in bodies text ≡ Some tree)
+
+abbrev pub AreScriptsOf : Holds → Bodies → (paths : List Text) → List (Option Chains) → Type 0
+AreScriptsOf holds bodies [] [] = Unit {0}
+AreScriptsOf holds bodies (path ∷ paths) (tree ∷ trees) = IsScriptOf holds bodies path tree × AreScriptsOf holds bodies paths trees
+AreScriptsOf holds bodies paths trees = ⊥
+
+-- one more of them
+abbrev pub AddsScriptOf : Holds → Bodies → (path : Text) → (old new : List (Option Chains)) → Type 0
+AddsScriptOf holds bodies path old new = (tree : Option Chains) × IsScriptOf holds bodies path tree × (new ≡ old ++ tree ∷ [])
 
 -- where its power may fail, by its second copy, and by what a bad copy is taken for if there is none
 abbrev pub cutting_for : Bool → (second : Option (List ℕ)) → (bad : List ℕ) → Cutting
@@ -69,8 +81,8 @@ ReportsBoots asked given after session old new status =
     (end : ToolEnd) × PrintsBoots asked given after session old.output new.output end × Says end.fault old.errors new.errors × (status ≡ end.status)
 
 -- answers may be open; or before that a file can't be used or is no script, or memory runs out
-abbrev pub BootsOver : PowerOns → Held → Writers → Writers → ℕ → Type 0
-BootsOver asked session old new status =
+abbrev pub BootsOver : Holds → PowerOns → Held → Writers → Writers → ℕ → Type 0
+BootsOver holds asked session old new status =
     Stops old new status
-    ⊎ ((given : Hardware) × (after : List (Option Chains)) × IsHardwareOf true asked.dry given
-    × AreScriptsOf asked.after after × ReportsBoots asked given after session old new status)
+    ⊎ ((given : Hardware) × (after : List (Option Chains)) × IsHardwareOf holds true asked.dry given
+    × AreScriptsOf holds (bodies_of asked.dry.shell) asked.after after × ReportsBoots asked given after session old new status)

@@ -24,6 +24,8 @@ use Rattle.fw_files.specs.WrittenBack.{AreLeft, Devices}
 use Rattle.fw_files.specs.declared.source.Source.{Source}
 use Rattle.fw_tools.specs.Closing.{Closes}
 use Rattle.fw_tools.specs.WantedHardware.{IsHardwareOf}
+use Rattle.fw_files.specs.FileTexts.{Holds}
+use Rattle.fw_files.specs.Files.{IsTextAt}
 
 -- a byte of a name in quotes; a quote is outside of them
 abbrev pub quoted : ℕ → List ℕ
@@ -36,11 +38,11 @@ quoted_name name = codes " '" ++ flat_map quoted name ++ codes "'"
 abbrev pub starts : List Text → List ℕ
 starts names = codes "run" ++ flat_map quoted_name names
 
--- the text that is run; for a file it is some text
-abbrev pub IsTextOf : GivenScript → List ℕ → Type 0
-IsTextOf (Names names) text = text ≡ starts names
-IsTextOf (Words given) text = text ≡ given
-IsTextOf (File path) text = Unit {0}
+-- the text that is run
+abbrev pub IsTextOf : Holds → GivenScript → List ℕ → Type 0
+IsTextOf holds (Names names) text = text ≡ starts names
+IsTextOf holds (Words given) text = text ≡ given
+IsTextOf holds (File path) text = IsTextAt holds path text
 
 -- the name that it has in a message that it isn't a script
 abbrev pub name_of_script : GivenScript → Text
@@ -78,8 +80,8 @@ RunsText run given text source session devices old new status =
     ⊎ ((tree : Option Chains) × (read_in (bodies_of run.dry.shell) text ≡ Some tree) × RunsTree run given tree source session devices old new status)
 
 -- no board is asked; or before that a file can't be used, or memory runs out
-abbrev pub RunsOver : ScriptRun → Source → Held → Devices → Writers → Writers → ℕ → Type 0
-RunsOver run source session devices old new status =
+abbrev pub RunsOver : Holds → ScriptRun → Source → Held → Devices → Writers → Writers → ℕ → Type 0
+RunsOver holds run source session devices old new status =
     (Stops old new status × AreLeft devices)
-    ⊎ ((given : Hardware) × (text : List ℕ) × IsHardwareOf false run.dry given × IsTextOf run.script text
+    ⊎ ((given : Hardware) × (text : List ℕ) × IsHardwareOf holds false run.dry given × IsTextOf holds run.script text
     × RunsText run given text source session devices old new status)

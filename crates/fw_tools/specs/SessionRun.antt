@@ -19,6 +19,7 @@ use Rattle.fw_files.specs.declared.source.Source.{Source}
 use Rattle.fw_tools.specs.WantedHardware.{IsHardwareOf}
 use Rattle.fw_engines.specs.Streams.{AppendsFront, Streams, writers_of}
 use Rattle.fw_engines.specs.declared.tool_end.StreamFault.TheVariants.{Read, Write, Memory}
+use Rattle.fw_files.specs.FileTexts.{Holds}
 
 -- the copies are written back if that was asked for and the whole input was handled
 abbrev pub is_kept : Bool → SessionEnding → Bool
@@ -59,7 +60,7 @@ TriesWith run given source session devices old new status =
     × ClosesDryRun (is_kept run.write end) end source after.held devices old.errors new.errors status
 
 -- no board is asked; or before that a file of these can't be used, or memory runs out
-abbrev pub TriesOver : DryRun → Source → Held → Devices → Streams → Streams → ℕ → Type 0
-TriesOver run source session devices old new status =
+abbrev pub TriesOver : Holds → DryRun → Source → Held → Devices → Streams → Streams → ℕ → Type 0
+TriesOver holds run source session devices old new status =
     ((new.input ≡ old.input) × Stops (writers_of old) (writers_of new) status × AreLeft devices)
-    ⊎ ((given : Hardware) × IsHardwareOf false run given × TriesWith run given source session devices old new status)
+    ⊎ ((given : Hardware) × IsHardwareOf holds false run given × TriesWith run given source session devices old new status)

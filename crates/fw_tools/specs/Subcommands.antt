@@ -37,6 +37,8 @@ use Rattle.fw_tools.specs.ScriptRuns.{RunsOver}
 use Rattle.fw_engines.specs.Streams.{AppendsFront, Streams, Writers, writers_of}
 use Rattle.fw_engines.specs.Tool.{Printed, Texts}
 use Rattle.fw_engines.specs.declared.tool_end.ToolEnd.{ToolEnd}
+use Rattle.fw_files.specs.FileTexts.{Holds}
+use Rattle.fw_files.specs.Files.{AreImportedAt, AreSetAt}
 
 -- a session, and what two writers hold
 pub record Scene : Type 0 where
@@ -54,21 +56,21 @@ changing s = record { session = s.session; errors = s.writers.errors }
 abbrev pub ChangesAll : Scene → Scene → Effect → (Held → Type 0) → ToolEnd → Type 0
 ChangesAll old new effect lacks end = (new.writers.output ≡ old.writers.output) × Changes (changing old) (changing new) effect lacks end
 
--- the entries of some set script
-abbrev pub SetsFrom : Scene → Scene → (text : List ℕ) → (entries : List text_entries.Entry) → ToolEnd → Type 0
-SetsFrom old new text entries end =
-    (set_script_of text ≡ Ok entries)
+-- the entries of the set script at a path
+abbrev pub SetsFrom : Holds → (path : Text) → Scene → Scene → (entries : List text_entries.Entry) → ToolEnd → Type 0
+SetsFrom holds path old new entries end =
+    AreSetAt holds path entries
     × ChangesAll old new (script_effect old.session (map pair_of entries)) (LacksMemory old.session (map pair_of entries) 0) end
 
--- the entries of some text for import, written one after the other, or in the place of all variables
-abbrev pub ImportsFrom : Scene → Scene → (text : List ℕ) → (entries : List text_entries.Entry) → ToolEnd → Type 0
-ImportsFrom old new text entries end =
-    (import_of text ≡ Ok entries)
+-- the entries of the text for import at a path, written one after the other, or in the place of all variables
+abbrev pub ImportsFrom : Holds → (path : Text) → Scene → Scene → (entries : List text_entries.Entry) → ToolEnd → Type 0
+ImportsFrom holds path old new entries end =
+    AreImportedAt holds path entries
     × ChangesAll old new (named_import_effect old.session entries) (LacksMemoryToName old.session (map pair_of entries)) end
 
-abbrev pub RestoresFrom : Scene → Scene → (text : List ℕ) → (entries : List text_entries.Entry) → ToolEnd → Type 0
-RestoresFrom old new text entries end =
-    (import_of text ≡ Ok entries) × ChangesAll old new (restore_effect old.session entries) (LacksMemoryToRestore old.session entries) end
+abbrev pub RestoresFrom : Holds → (path : Text) → Scene → Scene → (entries : List text_entries.Entry) → ToolEnd → Type 0
+RestoresFrom holds path old new entries end =
+    AreImportedAt holds path entries × ChangesAll old new (restore_effect old.session entries) (LacksMemoryToRestore old.session entries) end
 
 -- names printed in a way
 abbrev pub printed_so : Printing → Environment → List Text → Texts
@@ -76,14 +78,14 @@ printed_so Lines env names = printed env names false
 printed_so OneValue env names = printed env names true
 printed_so Values env names = named true env names
 
--- a task done; a file that it reads holds some text, of which all entries count
-abbrev pub Acts : Task → Scene → Scene → ToolEnd → Type 0
-Acts (Task.Print names printing) old new end = PrintsAll old new (printed_so printing old.session.now.env names) end
-Acts (Task.Set name words) old new end = ChangesAll old new (set_effect old.session name (spaced words)) (LacksMemoryToSet old.session name words) end
-Acts (Task.SetScript path) old new end = (text : List ℕ) × (entries : List text_entries.Entry) × SetsFrom old new text entries end
-Acts (Task.Import path) old new end = (text : List ℕ) × (entries : List text_entries.Entry) × ImportsFrom old new text entries end
-Acts Task.Export old new end = PrintsAll old new (export_texts old.session.now.env) end
-Acts (Task.Restore path) old new end = (text : List ℕ) × (entries : List text_entries.Entry) × RestoresFrom old new text entries end
+-- a task done; of the text in a file that it reads all entries count
+abbrev pub Acts : Holds → Task → Scene → Scene → ToolEnd → Type 0
+Acts holds (Task.Print names printing) old new end = PrintsAll old new (printed_so printing old.session.now.env names) end
+Acts holds (Task.Set name words) old new end = ChangesAll old new (set_effect old.session name (spaced words)) (LacksMemoryToSet old.session name words) end
+Acts holds (Task.SetScript path) old new end = (entries : List text_entries.Entry) × SetsFrom holds path old new entries end
+Acts holds (Task.Import path) old new end = (entries : List text_entries.Entry) × ImportsFrom holds path old new entries end
+Acts holds Task.Export old new end = PrintsAll old new (export_texts old.session.now.env) end
+Acts holds (Task.Restore path) old new end = (entries : List text_entries.Entry) × RestoresFrom holds path old new entries end
 
 -- a job that writes the copies back locks their device exclusively, already while it reads them
 abbrev pub hold_for : Job → Hold
@@ -111,47 +113,47 @@ abbrev pub is_kept : (only_changes : Bool) → Task → (opened after : Held) �
 is_kept only_changes task opened after =
     not (is_left (changes task) only_changes opened.now.current (env.len (last_changed_names after.marks)))
 
-abbrev pub UsesTool : (only_changes : Bool) → Task → Source → Held → Devices → Writers → Writers → ℕ → Type 0
-UsesTool only_changes task source session devices old new status =
+abbrev pub UsesTool : Holds → (only_changes : Bool) → Task → Source → Held → Devices → Writers → Writers → ℕ → Type 0
+UsesTool holds only_changes task source session devices old new status =
     (Stops old new status × AreLeft devices)
-    ⊎ ((after : Scene) × (end : ToolEnd) × Acts task (record { session = session; writers = old }) after end
+    ⊎ ((after : Scene) × (end : ToolEnd) × Acts holds task (record { session = session; writers = old }) after end
     × (new.output ≡ after.writers.output)
     × Closes (is_kept only_changes task session after.session) Second source after.session end devices after.writers.errors new.errors status)
 
 -- what is done over a session; a tool doesn't read standard input, nor does a check, nor a script's run
 -- except for its file
-abbrev pub DoesJob : (only_changes : Bool) → Job → Source → Held → Devices → Streams → Streams → ℕ → Type 0
-DoesJob only_changes (Tool task) source session devices old new status =
-    (new.input ≡ old.input) × UsesTool only_changes task source session devices (writers_of old) (writers_of new) status
-DoesJob only_changes (Tries run) source session devices old new status = TriesOver run source session devices old new status
-DoesJob only_changes (Runs run) source session devices old new status =
-    (new.input ≡ old.input) × RunsOver run source session devices (writers_of old) (writers_of new) status
-DoesJob only_changes (Boots power_ons) source session devices old new status =
-    (new.input ≡ old.input) × BootsOver power_ons session (writers_of old) (writers_of new) status × AreLeft devices
-DoesJob only_changes (Checks check) source session devices old new status =
-    (new.input ≡ old.input) × ChecksOver check session (writers_of old) (writers_of new) status × AreLeft devices
+abbrev pub DoesJob : Holds → (only_changes : Bool) → Job → Source → Held → Devices → Streams → Streams → ℕ → Type 0
+DoesJob holds only_changes (Tool task) source session devices old new status =
+    (new.input ≡ old.input) × UsesTool holds only_changes task source session devices (writers_of old) (writers_of new) status
+DoesJob holds only_changes (Tries run) source session devices old new status = TriesOver holds run source session devices old new status
+DoesJob holds only_changes (Runs run) source session devices old new status =
+    (new.input ≡ old.input) × RunsOver holds run source session devices (writers_of old) (writers_of new) status
+DoesJob holds only_changes (Boots power_ons) source session devices old new status =
+    (new.input ≡ old.input) × BootsOver holds power_ons session (writers_of old) (writers_of new) status × AreLeft devices
+DoesJob holds only_changes (Checks check) source session devices old new status =
+    (new.input ≡ old.input) × ChecksOver holds check session (writers_of old) (writers_of new) status × AreLeft devices
 
 -- locks may be waited for, then a session is opened, with a warning if no copy is good, and worked on; what writes
 -- copies, and isn't told to write over those that are good in another way, works over none of these
-abbrev pub UsesSession : Call → Devices → Streams → Streams → ℕ → Type 0
-UsesSession call devices old new status =
+abbrev pub UsesSession : Holds → Call → Devices → Streams → Streams → ℕ → Type 0
+UsesSession holds call devices old new status =
     (waited : Option (List ℕ)) × (asked : Defaults) × (source : Source) × (session : Held) × (warned : Option (List ℕ)) × HasWaited old.errors waited
-    × IsTaken session.now.current call.defaults asked × IsOpening call.image call.order call.copy (spares call) asked source session
+    × IsTaken session.now.current call.defaults asked × IsOpening holds call.config call.image call.order call.copy (spares call) asked source session
     × IsAccepted asked session waited warned
-    × DoesJob call.only_changes call.job source session devices (record { input = old.input; output = old.output; errors = warned }) new status
+    × DoesJob holds call.only_changes call.job source session devices (record { input = old.input; output = old.output; errors = warned }) new status
 
 -- or before that a file can't be used, or memory runs out: some text may report it
-abbrev pub Uses : Call → Devices → Streams → Streams → ℕ → Type 0
-Uses call devices old new status =
+abbrev pub Uses : Holds → Call → Devices → Streams → Streams → ℕ → Type 0
+Uses holds call devices old new status =
     ((new.input ≡ old.input) × SaysOnly (writers_of old) (writers_of new) × (status ≡ stopped_status call.job) × AreLeft devices)
-    ⊎ UsesSession call devices old new status
+    ⊎ UsesSession holds call devices old new status
 
 -- wrong arguments that clap's rules don't detect are answered with a text and this status, and nothing is read
-abbrev pub Called : (refused : ℕ) → Result Asked Text → Devices → Streams → Streams → ℕ → Type 0
-Called refused (Ok (Work call)) devices old new status = Uses call devices old new status
-Called refused (Ok (Look report)) devices old new status = (new.input ≡ old.input) × ReportsOn report (writers_of old) (writers_of new) status × AreLeft devices
-Called refused (Ok (Check check)) devices old new status = (new.input ≡ old.input) × ChecksFile check (writers_of old) (writers_of new) status × AreLeft devices
-Called refused (Ok (Make image)) devices old new status = (new.input ≡ old.input) × MakesImage image (writers_of old) (writers_of new) status × AreLeft devices
-Called refused (Ok (Find path)) devices old new status = (new.input ≡ old.input) × Finds path (writers_of old) (writers_of new) status × AreLeft devices
-Called refused (Err text) devices old new status =
+abbrev pub Called : (holds wrote : Holds) → (refused : ℕ) → Result Asked Text → Devices → Streams → Streams → ℕ → Type 0
+Called holds wrote refused (Ok (Work call)) devices old new status = Uses holds call devices old new status
+Called holds wrote refused (Ok (Look report)) devices old new status = (new.input ≡ old.input) × ReportsOn holds report (writers_of old) (writers_of new) status × AreLeft devices
+Called holds wrote refused (Ok (Check check)) devices old new status = (new.input ≡ old.input) × ChecksFile holds check (writers_of old) (writers_of new) status × AreLeft devices
+Called holds wrote refused (Ok (Make image)) devices old new status = (new.input ≡ old.input) × MakesImage holds wrote image (writers_of old) (writers_of new) status × AreLeft devices
+Called holds wrote refused (Ok (Find path)) devices old new status = (new.input ≡ old.input) × Finds holds path (writers_of old) (writers_of new) status × AreLeft devices
+Called holds wrote refused (Err text) devices old new status =
     (new.input ≡ old.input) × (new.output ≡ old.output) × AppendsFront old.errors new.errors text × (status ≡ refused) × AreLeft devices

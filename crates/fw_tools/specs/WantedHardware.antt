@@ -6,6 +6,7 @@ use Rattle.hush_commands.specs.declared.departure.Leaving.TheVariants.{Boots, Re
 use Rattle.hush_commands.specs.Stubs.{Statuses, with_leaving}
 use Rattle.hush_commands.specs.Hardware.{Hardware}
 use Rattle.fw_arguments.specs.DryRuns.{DryRun}
+use Rattle.fw_files.specs.FileTexts.{Holds}
 use Rattle.fw_files.specs.Files.{AreRulesOf, AreStubsOf}
 
 -- the stand-ins, with those of these names made to leave the board so
@@ -17,9 +18,9 @@ with_leavings leaving stand_ins (name ∷ names) = with_leavings leaving (with_l
 abbrev pub with_departures : DryRun → Statuses → Statuses
 with_departures run read = with_leavings Resets (with_leavings Boots read run.boots) run.resets
 
-abbrev pub AreStandInsOf : DryRun → Statuses → Type 0
-AreStandInsOf run stand_ins = (read : Statuses) × AreStubsOf run.stand_ins read × (stand_ins ≡ with_departures run read)
+abbrev pub AreStandInsOf : Holds → DryRun → Statuses → Type 0
+AreStandInsOf holds run stand_ins = (read : Statuses) × AreStubsOf holds run.stand_ins read × (stand_ins ≡ with_departures run read)
 
 -- what stands in for hardware; answers may be open if the board may be asked
-abbrev pub IsHardwareOf : Bool → DryRun → Hardware → Type 0
-IsHardwareOf may_ask run given = AreStandInsOf run given.stubs × AreRulesOf may_ask run.board given.rules
+abbrev pub IsHardwareOf : Holds → (may_ask : Bool) → DryRun → Hardware → Type 0
+IsHardwareOf holds may_ask run given = AreStandInsOf holds run given.stubs × AreRulesOf holds may_ask run.board given.rules

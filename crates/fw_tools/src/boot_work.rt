@@ -36,7 +36,7 @@ pub(crate) fn boot_given<X: System + AllocGlobal, W: Write, E: Write>(
     output: &mut W,
     errors: &mut E,
 ) -> Option<u8>
-    ensures { BootsOver (power_ons_view asked.now) session.now
+    ensures { BootsOver (X.holds rt.now) (power_ons_view asked.now) session.now
         (record { output = W.contents output.old; errors = E.contents errors.old })
         (record { output = W.contents output.new; errors = E.contents errors.new }) (unwrap_or result 1) }
 {

@@ -21,7 +21,7 @@ pub(crate) fn hardware_given_or_say<X: System + AllocGlobal, E: Write>(
     errors: &mut E,
 ) -> Option<Option<GivenHardware>>
     ensures { MatchOption result (SaysSome (E.contents errors.old) (E.contents errors.new))
-        (λ given. IsHardwareGiven (path_view stand_ins.entry) (path_view board.entry) (option_map given_hardware given)
+        (λ given. IsHardwareGiven (X.holds rt.now) (path_view stand_ins.entry) (path_view board.entry) (option_map given_hardware given)
         × (E.contents errors.new ≡ E.contents errors.old)) }
 {
     match stand_ins {
@@ -41,7 +41,7 @@ fn hardware_read_or_say<X: System + AllocGlobal, E: Write>(
     errors: &mut E,
 ) -> Option<Option<GivenHardware>>
     ensures { MatchOption result (SaysSome (E.contents errors.old) (E.contents errors.new))
-        (λ given. IsHardwareRead (path_view stand_ins.entry) (path_view board.entry) (option_map given_hardware given)
+        (λ given. IsHardwareRead (X.holds rt.now) (path_view stand_ins.entry) (path_view board.entry) (option_map given_hardware given)
         × (E.contents errors.new ≡ E.contents errors.old)) }
 {
     let stand_ins = stand_ins_or_say(rt, stand_ins, errors)?;
@@ -56,7 +56,7 @@ fn stand_ins_or_say<X: System + AllocGlobal, E: Write>(
     errors: &mut E,
 ) -> Option<Stubs>
     ensures { MatchOption result (SaysSome (E.contents errors.old) (E.contents errors.new))
-        (λ stand_ins. AreStubsOf (path_view path.entry) stand_ins × (E.contents errors.new ≡ E.contents errors.old)) }
+        (λ stand_ins. AreStubsOf (X.holds rt.now) (path_view path.entry) stand_ins × (E.contents errors.new ≡ E.contents errors.old)) }
 {
     value_or_say(
         rt.alloc(),
@@ -74,7 +74,7 @@ pub(crate) fn known_or_say<X: System + AllocGlobal, E: Write>(
     errors: &mut E,
 ) -> Option<Vec<Vec<u8>>>
     ensures { MatchOption result (SaysSome (E.contents errors.old) (E.contents errors.new))
-        (λ names. AreKnownOf (path_view path.entry) (names_view names) × (E.contents errors.new ≡ E.contents errors.old)) }
+        (λ names. AreKnownOf (X.holds rt.now) (path_view path.entry) (names_view names) × (E.contents errors.new ≡ E.contents errors.old)) }
 {
     value_or_say(
         rt.alloc(),

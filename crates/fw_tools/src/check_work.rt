@@ -1,8 +1,9 @@
 //! `check`: the scripts of an environment, or those of files, are checked before anything runs.
-ghost use Rattle.std.specs.Prelude.{◌≤◌, ◌++◌, ◌∷◌, [], MatchOption, ◌≡◌, OnOk, map, unwrap_or};
-ghost use Rattle.fw_check.specs.FileChecks.{paths_of, scripts_view};
+ghost use Rattle.std.specs.Prelude.{◌≤◌, MatchOption, ◌≡◌, OnOk, map, unwrap_or};
+ghost use Rattle.fw_arguments.specs.DryRuns.{texts};
+ghost use Rattle.fw_check.specs.FileChecks.{scripts_view};
 ghost use Rattle.fw_arguments.specs.Checks.{environment_check_view, file_check_view};
-ghost use Rattle.fw_tools.specs.CheckRuns.{ChecksFile, ChecksOver, check_status, unchecked};
+ghost use Rattle.fw_tools.specs.CheckRuns.{AddsScriptAt, AreScriptsAt, ChecksFile, ChecksOver, check_status, unchecked};
 ghost use Rattle.fw_files.specs.Said.{Says, SaysSome};
 
 use crate::check_rules::{hardware_given_or_say, known_or_say, rules_with};
@@ -13,12 +14,12 @@ use fw_check::{FileScript, check, check_files};
 use fw_engines::ToolEnd;
 use fw_files::{Explains, FileFault, System, read_text, report, value_or_say};
 use std::io::Write;
-use std::rt::Files;
 
 /// The exit status of a check that can't be made, or whose findings can't be printed.
 pub(crate) const UNCHECKED: u8 = 2;
 
-/// Checks the scripts of a session's environment, and answers the exit status; `None` if a file can't be used before.
+/// Checks the scripts of a session's environment, and those in files over it, and answers the exit status; `None` if a file
+/// can't be used before.
 pub(crate) fn check_session<X: System + AllocGlobal, W: Write, E: Write>(
     rt: &X,
     session: &Session,
@@ -26,26 +27,28 @@ pub(crate) fn check_session<X: System + AllocGlobal, W: Write, E: Write>(
     output: &mut W,
     errors: &mut E,
 ) -> Option<u8>
-    ensures { ChecksOver (environment_check_view asked.now) session.now
+    ensures { ChecksOver (X.holds rt.now) (environment_check_view asked.now) session.now
         (record { output = W.contents output.old; errors = E.contents errors.old })
         (record { output = W.contents output.new; errors = E.contents errors.new }) (unwrap_or result unchecked) }
 {
     let given = hardware_given_or_say(rt, asked.stand_ins, asked.board, errors)?;
     let known = known_or_say(rt, asked.known, errors)?;
     let names = bytes_or_say(rt.alloc(), asked.names, errors)?;
+    let scripts = given_scripts_or_say(rt, asked.scripts, errors)?;
     let end = check(
         rt.alloc(),
         rules_with(asked.shell, &given, &known),
         session.vars(),
         asked.choice,
         &names,
+        &scripts,
         output,
         errors,
     );
     Some(leave(end, errors))
 }
 
-/// Checks the scripts in files, and answers the exit status.
+/// Checks the scripts in files alone, and answers the exit status.
 pub(crate) fn run_file_check<X: System + AllocGlobal, W: Write, E: Write>(
     rt: &X,
     asked: &FileCheck<'_, '_>,
@@ -53,7 +56,7 @@ pub(crate) fn run_file_check<X: System + AllocGlobal, W: Write, E: Write>(
     errors: &mut E,
 ) -> u8
     ensures status { result ≤ unchecked }
-    ensures checks { ChecksFile (file_check_view asked.now)
+    ensures checks { ChecksFile (X.holds rt.now) (file_check_view asked.now)
         (record { output = W.contents output.old; errors = E.contents errors.old })
         (record { output = W.contents output.new; errors = E.contents errors.new }) result }
 {
@@ -67,7 +70,7 @@ fn check_scripts<X: System + AllocGlobal, W: Write, E: Write>(
     output: &mut W,
     errors: &mut E,
 ) -> Option<u8>
-    ensures { ChecksFile (file_check_view asked.now)
+    ensures { ChecksFile (X.holds rt.now) (file_check_view asked.now)
         (record { output = W.contents output.old; errors = E.contents errors.old })
         (record { output = W.contents output.new; errors = E.contents errors.new }) (unwrap_or result unchecked) }
 {
@@ -84,6 +87,22 @@ fn check_scripts<X: System + AllocGlobal, W: Write, E: Write>(
     Some(leave(end, errors))
 }
 
+/// The scripts in the files of these paths, if some are given; a fault of one is reported on `errors`.
+fn given_scripts_or_say<'w, X: System + AllocGlobal, E: Write>(
+    rt: &X,
+    paths: Option<&[&'w str]>,
+    errors: &mut E,
+) -> Option<Vec<FileScript<'w>>>
+    ensures { MatchOption result (SaysSome (E.contents errors.old) (E.contents errors.new))
+        (λ scripts. AreScriptsAt (X.holds rt.now) (texts paths.entry) (scripts_view scripts.items)
+        × (E.contents errors.new ≡ E.contents errors.old)) }
+{
+    match paths {
+        Some(paths) => scripts_or_say(rt, paths, errors),
+        None => Some(Vec::new(rt.alloc())),
+    }
+}
+
 /// The scripts in the files of these paths; a fault of one is reported on `errors`.
 fn scripts_or_say<'w, X: System + AllocGlobal, E: Write>(
     rt: &X,
@@ -91,7 +110,7 @@ fn scripts_or_say<'w, X: System + AllocGlobal, E: Write>(
     errors: &mut E,
 ) -> Option<Vec<FileScript<'w>>>
     ensures { MatchOption result (SaysSome (E.contents errors.old) (E.contents errors.new))
-        (λ scripts. (paths_of (scripts_view scripts.items) ≡ map (λ p. p.now) paths.now)
+        (λ scripts. AreScriptsAt (X.holds rt.now) (map (λ p. p.now) paths.now) (scripts_view scripts.items)
         × (E.contents errors.new ≡ E.contents errors.old)) }
 {
     let mut scripts = Vec::new(rt.alloc());
@@ -109,7 +128,7 @@ fn add_or_say<'w, X: System + AllocGlobal, E: Write>(
     errors: &mut E,
 ) -> Option<()>
     ensures { MatchOption result (SaysSome (E.contents errors.old) (E.contents errors.new))
-        (λ _. (paths_of (scripts_view scripts.new.items) ≡ paths_of (scripts_view scripts.old.items) ++ path.now ∷ [])
+        (λ _. AddsScriptAt (X.holds rt.now) path.now (scripts_view scripts.old.items) (scripts_view scripts.new.items)
         × (E.contents errors.new ≡ E.contents errors.old)) }
 {
     let added = add_script(rt, path, scripts);
@@ -117,13 +136,13 @@ fn add_or_say<'w, X: System + AllocGlobal, E: Write>(
 }
 
 /// Appends the script in the file of this path.
-fn add_script<'w, X: Files + AllocGlobal>(
+fn add_script<'w, X: System + AllocGlobal>(
     rt: &X,
     path: &'w str,
     scripts: &mut Vec<FileScript<'w>>,
 ) -> Result<(), FileFault>
     ensures { OnOk result
-        (paths_of (scripts_view scripts.new.items) ≡ paths_of (scripts_view scripts.old.items) ++ path.now ∷ []) }
+        (AddsScriptAt (X.holds rt.now) path.now (scripts_view scripts.old.items) (scripts_view scripts.new.items)) }
 {
     let text = read_text(rt, path)?;
     let script = FileScript {

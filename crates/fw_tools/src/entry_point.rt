@@ -62,7 +62,7 @@ pub fn program<X: System + AllocGlobal, S: AsStr, D: Start, R: Read, W: Write, E
     errors: &mut E,
 ) -> u8
     ensures status { result ≤ unchecked }
-    ensures runs { Runs (map S.text words.entry.now)
+    ensures runs { Runs (X.holds rt.now) (X.wrote rt.now) (map S.text words.entry.now)
         (record { start = D.contents; before = option_map (λ d. calls_in d.calls) devices.old; after = option_map (λ d. calls_in d.calls) devices.new })
         (record { input = R.remaining input.old; output = W.contents output.old; errors = E.contents errors.old })
         (record { input = R.remaining input.new; output = W.contents output.new; errors = E.contents errors.new })
@@ -151,7 +151,7 @@ fn act_on<X: System + AllocGlobal, D: Start, R: Read, W: Write, E: Write>(
     errors: &mut E,
 ) -> u8
     ensures status { refused ≤ unchecked → result ≤ unchecked }
-    ensures does { Does refused (order_in matches.now) (called_in under matches.now)
+    ensures does { Does (X.holds rt.now) (X.wrote rt.now) refused (order_in matches.now) (called_in under matches.now)
         (record { start = D.contents; before = option_map (λ d. calls_in d.calls) devices.old; after = option_map (λ d. calls_in d.calls) devices.new })
         (record { input = R.remaining input.old; output = W.contents output.old; errors = E.contents errors.old })
         (record { input = R.remaining input.new; output = W.contents output.new; errors = E.contents errors.new })
@@ -188,7 +188,7 @@ fn run_asked<X: System + AllocGlobal, D: Start, R: Read, W: Write, E: Write>(
     errors: &mut E,
 ) -> u8
     ensures status { result ≤ unchecked }
-    ensures called { (refused : ℕ) → Called refused (Ok (asked_view asked.now))
+    ensures called { (refused : ℕ) → Called (X.holds rt.now) (X.wrote rt.now) refused (Ok (asked_view asked.now))
         (record { start = D.contents; before = option_map (λ d. calls_in d.calls) devices.old; after = option_map (λ d. calls_in d.calls) devices.new })
         (record { input = R.remaining input.old; output = W.contents output.old; errors = E.contents errors.old })
         (record { input = R.remaining input.new; output = W.contents output.new; errors = E.contents errors.new })

@@ -17,7 +17,7 @@ pub(crate) fn run_find<X: System + AllocGlobal, W: Write, E: Write>(
     errors: &mut E,
 ) -> u8
     ensures status { result ≤ 1 }
-    ensures finds { Finds path.now (record { output = W.contents output.old; errors = E.contents errors.old })
+    ensures finds { Finds (X.holds rt.now) path.now (record { output = W.contents output.old; errors = E.contents errors.old })
         (record { output = W.contents output.new; errors = E.contents errors.new }) result }
 {
     find(rt, path, output, errors).unwrap_or(1)
@@ -30,7 +30,7 @@ fn find<X: System + AllocGlobal, W: Write, E: Write>(
     output: &mut W,
     errors: &mut E,
 ) -> Option<u8>
-    ensures { Finds path.now (record { output = W.contents output.old; errors = E.contents errors.old })
+    ensures { Finds (X.holds rt.now) path.now (record { output = W.contents output.old; errors = E.contents errors.old })
         (record { output = W.contents output.new; errors = E.contents errors.new }) (unwrap_or result 1) }
 {
     let read = read_dump(rt, path);

@@ -41,7 +41,7 @@ pub(crate) fn board_or_say<X: System + AllocGlobal, E: Write>(
     errors: &mut E,
 ) -> Option<BoardRules>
     ensures { MatchOption result (SaysSome (E.contents errors.old) (E.contents errors.new))
-        (λ rules. AreRulesOf may_ask (option_map (λ p. p.now) path.entry) rules × (E.contents errors.new ≡ E.contents errors.old)) }
+        (λ rules. AreRulesOf (X.holds rt.now) may_ask (option_map (λ p. p.now) path.entry) rules × (E.contents errors.new ≡ E.contents errors.old)) }
 {
     value_or_say(
         rt.alloc(),
@@ -62,7 +62,7 @@ pub(crate) fn hardware_or_say<X: System + AllocGlobal, E: Write>(
     errors: &mut E,
 ) -> Option<GivenHardware>
     ensures { MatchOption result (SaysSome (E.contents errors.old) (E.contents errors.new))
-        (λ given. IsHardwareOf may_ask (dry_run_view run.now) (hardware given.board given.stand_ins) × (E.contents errors.new ≡ E.contents errors.old)) }
+        (λ given. IsHardwareOf (X.holds rt.now) may_ask (dry_run_view run.now) (hardware given.board given.stand_ins) × (E.contents errors.new ≡ E.contents errors.old)) }
 {
     let stand_ins = stand_ins_or_say(rt, run, explains, errors)?;
     let board = board_or_say(rt, run.board, may_ask, explains, errors)?;
@@ -78,7 +78,7 @@ fn stand_ins_or_say<X: System + AllocGlobal, E: Write>(
     errors: &mut E,
 ) -> Option<Stubs>
     ensures { MatchOption result (SaysSome (E.contents errors.old) (E.contents errors.new))
-        (λ stand_ins. AreStandInsOf (dry_run_view run.now) stand_ins × (E.contents errors.new ≡ E.contents errors.old)) }
+        (λ stand_ins. AreStandInsOf (X.holds rt.now) (dry_run_view run.now) stand_ins × (E.contents errors.new ≡ E.contents errors.old)) }
 {
     let path = run.stand_ins.unwrap_or("");
     let outcome = stand_ins_of(rt, run);
@@ -115,7 +115,7 @@ fn name_without<'a>(stand_ins: &Stubs, names: Option<&[&'a str]>) -> Option<&'a 
 
 /// The stand-ins, with those of the names that are given made to leave the board.
 fn stand_ins_of<X: System + AllocGlobal>(rt: &X, run: &DryRun<'_, '_>) -> Result<Stubs, FileFault>
-    ensures { IfOk result (AreStandInsOf (dry_run_view run.now)) }
+    ensures { IfOk result (AreStandInsOf (X.holds rt.now) (dry_run_view run.now)) }
 {
     let mut stand_ins = read_stand_ins(rt, run.stand_ins)?;
     leave_given(rt.alloc(), &mut stand_ins, Leaving::Boots, run.boots)?;

@@ -24,7 +24,7 @@ pub(crate) fn run_image<X: System + AllocGlobal, W: Write, E: Write>(
     errors: &mut E,
 ) -> u8
     ensures status { result ≤ 1 }
-    ensures makes { MakesImage (image_request_view asked.now)
+    ensures makes { MakesImage (X.holds rt.now) (X.wrote rt.now) (image_request_view asked.now)
         (record { output = W.contents output.old; errors = E.contents errors.old })
         (record { output = W.contents output.new; errors = E.contents errors.new }) result }
 {
@@ -38,7 +38,7 @@ fn make_image<X: System + AllocGlobal, W: Write, E: Write>(
     output: &mut W,
     errors: &mut E,
 ) -> Option<u8>
-    ensures { MakesImage (image_request_view asked.now)
+    ensures { MakesImage (X.holds rt.now) (X.wrote rt.now) (image_request_view asked.now)
         (record { output = W.contents output.old; errors = E.contents errors.old })
         (record { output = W.contents output.new; errors = E.contents errors.new }) (unwrap_or result 1) }
 {
@@ -78,7 +78,7 @@ fn put_out<X: System + AllocGlobal, W: Write, E: Write>(
     output: &mut W,
     errors: &mut E,
 ) -> Option<u8>
-    ensures { PutsOutOrStops (option_map (λ p. p.now) path.entry) image.now
+    ensures { PutsOutOrStops (X.wrote rt.now) (option_map (λ p. p.now) path.entry) image.now
         (record { output = W.contents output.old; errors = E.contents errors.old })
         (record { output = W.contents output.new; errors = E.contents errors.new }) (unwrap_or result 1) }
 {

@@ -10,11 +10,10 @@ ghost use Rattle.fw_tools.specs.ScriptRuns.{IsTextOf, Refuses, name_of_script, q
 use fw_arguments::GivenScript;
 use fw_engines::streams::say;
 use fw_engines::{OUT_OF_MEMORY, say_syntax_fault};
-use fw_files::{Explains, FileFault, read_text, value_or_say};
+use fw_files::{Explains, FileFault, System, read_text, value_or_say};
 use hush_syntax::{Bodies, FaultKind, Script};
 use std::alloc::{AllocError, Global};
 use std::io::Write;
-use std::rt::Files;
 
 /// The name that a script has in a message that it isn't one.
 pub(crate) fn name_of_script<'w>(given: &GivenScript<'_, 'w>) -> &'w str
@@ -36,13 +35,13 @@ fn path_of_script<'w>(given: &GivenScript<'_, 'w>) -> &'w str {
 }
 
 /// The text of a script; a fault is reported on `errors`.
-pub(crate) fn text_or_say<X: Files + AllocGlobal, E: Write>(
+pub(crate) fn text_or_say<X: System + AllocGlobal, E: Write>(
     rt: &X,
     given: &GivenScript<'_, '_>,
     errors: &mut E,
 ) -> Option<Vec<u8>>
     ensures { MatchOption result (SaysSome (E.contents errors.old) (E.contents errors.new))
-        (λ text. IsTextOf (script_view given.now) text.items × (E.contents errors.new ≡ E.contents errors.old)) }
+        (λ text. IsTextOf (X.holds rt.now) (script_view given.now) text.items × (E.contents errors.new ≡ E.contents errors.old)) }
 {
     value_or_say(
         rt.alloc(),
@@ -54,11 +53,11 @@ pub(crate) fn text_or_say<X: Files + AllocGlobal, E: Write>(
 }
 
 /// The text of a script.
-fn read_given<X: Files + AllocGlobal>(
+fn read_given<X: System + AllocGlobal>(
     rt: &X,
     given: &GivenScript<'_, '_>,
 ) -> Result<Vec<u8>, FileFault>
-    ensures { IfOk result (λ text. IsTextOf (script_view given.now) text.items) }
+    ensures { IfOk result (λ text. IsTextOf (X.holds rt.now) (script_view given.now) text.items) }
 {
     match *given {
         GivenScript::Names(names) => Ok(starts(rt.alloc(), names)?),

@@ -30,7 +30,7 @@ pub(crate) fn run_given<X: System + AllocGlobal, D: Start, W: Write, E: Write>(
     output: &mut W,
     errors: &mut E,
 ) -> Option<u8>
-    ensures { RunsOver (script_run_view asked.now) source.now opened
+    ensures { RunsOver (X.holds rt.now) (script_run_view asked.now) source.now opened
         (record { start = D.contents; before = option_map (λ d. calls_in d.calls) devices.old; after = option_map (λ d. calls_in d.calls) devices.new })
         (record { output = W.contents output.old; errors = E.contents errors.old })
         (record { output = W.contents output.new; errors = E.contents errors.new }) (unwrap_or result 1) }

@@ -39,7 +39,7 @@ pub(crate) fn talk<X: System + AllocGlobal, D: Start, R: Read, W: Write, E: Writ
     output: &mut W,
     errors: &mut E,
 ) -> Option<u8>
-    ensures { TriesOver (dry_run_view run.now) source.now opened
+    ensures { TriesOver (X.holds rt.now) (dry_run_view run.now) source.now opened
         (record { start = D.contents; before = option_map (λ d. calls_in d.calls) devices.old; after = option_map (λ d. calls_in d.calls) devices.new })
         (record { input = R.remaining input.old; output = W.contents output.old; errors = E.contents errors.old })
         (record { input = R.remaining input.new; output = W.contents output.new; errors = E.contents errors.new })

@@ -1,6 +1,8 @@
 //! The subcommands over the files that the arguments name.
 ghost use Rattle.std.specs.Prelude.{◌≡◌, ◌≤◌, Some, true, option_map, None, IfSome, MatchOption, if◌then◌else◌, is_some, unwrap_or};
 ghost use Rattle.fw_files.specs.Opening.{AreCopiesIn, AreWantedIn};
+ghost use Rattle.fw_files.specs.Source.{AreSettingsAt};
+ghost use Rattle.envcfg_core.specs.Config.{config_view};
 ghost use Rattle.fw_tools.specs.CheckRuns.{unchecked};
 ghost use Rattle.device_files.specs.Record.{calls_in};
 ghost use Rattle.envimg_core.specs.declared.choice.Choice.TheVariants.{Second};
@@ -38,7 +40,7 @@ pub(crate) fn run_call<X: System + AllocGlobal, D: Start, R: Read, W: Write, E: 
 ) -> u8
     ensures status { result ≤ stopped_status (job_view call.now.job) }
     ensures most { result ≤ unchecked }
-    ensures uses { Uses (call_view call.now)
+    ensures uses { Uses (X.holds rt.now) (call_view call.now)
         (record { start = D.contents; before = option_map (λ d. calls_in d.calls) devices.old; after = option_map (λ d. calls_in d.calls) devices.new })
         (record { input = R.remaining input.old; output = W.contents output.old; errors = E.contents errors.old })
         (record { input = R.remaining input.new; output = W.contents output.new; errors = E.contents errors.new })
@@ -66,7 +68,7 @@ fn use_files<X: System + AllocGlobal, D: Start, R: Read, W: Write, E: Write>(
     output: &mut W,
     errors: &mut E,
 ) -> Option<u8>
-    ensures { Uses (call_view call.now)
+    ensures { Uses (X.holds rt.now) (call_view call.now)
         (record { start = D.contents; before = option_map (λ d. calls_in d.calls) devices.old; after = option_map (λ d. calls_in d.calls) devices.new })
         (record { input = R.remaining input.old; output = W.contents output.old; errors = E.contents errors.old })
         (record { input = R.remaining input.new; output = W.contents output.new; errors = E.contents errors.new })
@@ -93,7 +95,7 @@ fn copies_for<X: System + AllocGlobal, E: Write>(
 ) -> Option<(Source, Option<Locks<X::File>>)>
     ensures locks { IfSome result (λ found. is_some found.1 ≡ keeps_locks call.now.image (job_view call.now.job)) }
     ensures found { MatchOption result (SaysSome (E.contents errors.old) (E.contents errors.new))
-        (λ found. AreWantedIn call.now.image call.now.order call.now.copy found.0 × HasWaited (E.contents errors.old) (E.contents errors.new)) }
+        (λ found. AreWantedIn (X.holds rt.now) call.now.config.now call.now.image call.now.order call.now.copy found.0 × HasWaited (E.contents errors.old) (E.contents errors.new)) }
 {
     let (read, locks) = copies_in(rt, call, errors)?;
     let source = wanted_or_say(rt.alloc(), read, call.copy, errors)?;
@@ -108,7 +110,7 @@ fn copies_in<X: System + AllocGlobal, E: Write>(
 ) -> Option<(Source, Option<Locks<X::File>>)>
     ensures locks { IfSome result (λ found. is_some found.1 ≡ keeps_locks call.now.image (job_view call.now.job)) }
     ensures found { MatchOption result (SaysSome (E.contents errors.old) (E.contents errors.new))
-        (λ found. AreCopiesIn call.now.image call.now.order found.0 × HasWaited (E.contents errors.old) (E.contents errors.new)) }
+        (λ found. AreCopiesIn (X.holds rt.now) call.now.config.now call.now.image call.now.order found.0 × HasWaited (E.contents errors.old) (E.contents errors.new)) }
 {
     match call.image {
         None => copies_in_devices(rt, call, errors),
@@ -127,7 +129,7 @@ fn copies_in_devices<X: System + AllocGlobal, E: Write>(
 ) -> Option<(Source, Option<Locks<X::File>>)>
     ensures locks { IfSome result (λ found. is_some found.1 ≡ keeps_lock (job_view call.now.job)) }
     ensures found { MatchOption result (SaysSome (E.contents errors.old) (E.contents errors.new))
-        (λ found. AreCopiesIn None call.now.order found.0 × HasWaited (E.contents errors.old) (E.contents errors.new)) }
+        (λ found. AreCopiesIn (X.holds rt.now) call.now.config.now None call.now.order found.0 × HasWaited (E.contents errors.old) (E.contents errors.new)) }
 {
     let config = config_or_say(rt, call.config, Explains::by(call), errors)?;
     let hold = hold_for(&call.job);
@@ -145,9 +147,10 @@ fn copies_under<X: System + AllocGlobal, L: Drop, E: Write>(
     locks: L,
     errors: &mut E,
 ) -> Option<(Source, Option<L>)>
+    requires { AreSettingsAt (X.holds rt.now) call.now.config.now (config_view config) }
     ensures locks { IfSome result (λ found. is_some found.1 ≡ keeps_lock (job_view call.now.job)) }
     ensures found { MatchOption result (SaysSome (E.contents errors.old) (E.contents errors.new))
-        (λ found. AreCopiesIn None call.now.order found.0 × (E.contents errors.new ≡ E.contents errors.old)) }
+        (λ found. AreCopiesIn (X.holds rt.now) call.now.config.now None call.now.order found.0 × (E.contents errors.new ≡ E.contents errors.old)) }
 {
     let source = read_source(rt, call.order, config, Explains::by(call), errors)?;
     Some((source, locks_for_work(locks, &call.job)))
@@ -184,7 +187,7 @@ fn work<X: System + AllocGlobal, D: Start, R: Read, W: Write, E: Write>(
     output: &mut W,
     errors: &mut E,
 ) -> Option<u8>
-    ensures { DoesJob call.now.only_changes (call_view call.now).job source.now opened
+    ensures { DoesJob (X.holds rt.now) call.now.only_changes (call_view call.now).job source.now opened
         (record { start = D.contents; before = option_map (λ d. calls_in d.calls) devices.old; after = option_map (λ d. calls_in d.calls) devices.new })
         (record { input = R.remaining input.old; output = W.contents output.old; errors = E.contents errors.old })
         (record { input = R.remaining input.new; output = W.contents output.new; errors = E.contents errors.new })
@@ -228,7 +231,7 @@ fn use_tool<X: System + AllocGlobal, D: Start, W: Write, E: Write>(
     output: &mut W,
     errors: &mut E,
 ) -> Option<u8>
-    ensures { UsesTool only_changes (task_view task.entry) source.now opened
+    ensures { UsesTool (X.holds rt.now) only_changes (task_view task.entry) source.now opened
         (record { start = D.contents; before = option_map (λ d. calls_in d.calls) devices.old; after = option_map (λ d. calls_in d.calls) devices.new })
         (record { output = W.contents output.old; errors = E.contents errors.old })
         (record { output = W.contents output.new; errors = E.contents errors.new }) (unwrap_or result 1) }

@@ -1,10 +1,9 @@
 //! The task of a tool, done over a session.
-ghost use Rattle.std.specs.Prelude.{◌≡◌, ℕ, List, Ok, IfOk, MatchOption, map};
+ghost use Rattle.std.specs.Prelude.{◌≡◌, List, IfOk, MatchOption, map};
 ghost use Rattle.envcfg_core.specs.Entries as text_entries;
-ghost use Rattle.envcfg_core.specs.Import.{import_of};
-ghost use Rattle.envcfg_core.specs.SetScript.{set_script_of};
 ghost use Rattle.fw_tools.specs.Subcommands.{Acts};
 ghost use Rattle.fw_arguments.specs.Calls.{task_view, texts};
+ghost use Rattle.fw_files.specs.Files.{AreImportedAt, AreSetAt};
 ghost use Rattle.fw_files.specs.Said.{SaysOnly, SaysSome};
 ghost use Rattle.fw_engines.specs.Changes.{Changes, LacksMemory, LacksMemoryToName, LacksMemoryToSet, named_import_effect, pair_of, script_effect, set_effect};
 ghost use Rattle.fw_engines.specs.Restoration.{LacksMemoryToRestore, restore_effect};
@@ -30,7 +29,7 @@ pub(crate) fn act<X: System + AllocGlobal, W: Write, E: Write>(
 ) -> Option<ToolEnd>
     ensures { MatchOption result (SaysOnly (record { output = W.contents output.old; errors = E.contents errors.old })
         (record { output = W.contents output.new; errors = E.contents errors.new }))
-        (λ end. Acts (task_view task.entry)
+        (λ end. Acts (X.holds rt.now) (task_view task.entry)
         (record { session = session.old; writers = record { output = W.contents output.old; errors = E.contents errors.old } })
         (record { session = session.new; writers = record { output = W.contents output.new; errors = E.contents errors.new } })
         end) }
@@ -74,7 +73,7 @@ fn set_from_file<X: System + AllocGlobal, E: Write>(
     errors: &mut E,
 ) -> Option<ToolEnd>
     ensures { MatchOption result (SaysSome (E.contents errors.old) (E.contents errors.new))
-        (λ end. (text : List ℕ) × (entries : List text_entries.Entry) × (set_script_of text ≡ Ok entries)
+        (λ end. (entries : List text_entries.Entry) × AreSetAt (X.holds rt.now) path.now entries
         × Changes (record { session = session.old; errors = E.contents errors.old })
         (record { session = session.new; errors = E.contents errors.new }) (script_effect session.old (map pair_of entries))
         (LacksMemory session.old (map pair_of entries) 0) end) }
@@ -92,7 +91,7 @@ fn import_file<X: System + AllocGlobal, E: Write>(
     errors: &mut E,
 ) -> Option<ToolEnd>
     ensures { MatchOption result (SaysSome (E.contents errors.old) (E.contents errors.new))
-        (λ end. (text : List ℕ) × (entries : List text_entries.Entry) × (import_of text ≡ Ok entries)
+        (λ end. (entries : List text_entries.Entry) × AreImportedAt (X.holds rt.now) path.now entries
         × Changes (record { session = session.old; errors = E.contents errors.old })
         (record { session = session.new; errors = E.contents errors.new }) (named_import_effect session.old entries)
         (LacksMemoryToName session.old (map pair_of entries)) end) }
@@ -110,7 +109,7 @@ fn restore_file<X: System + AllocGlobal, E: Write>(
     errors: &mut E,
 ) -> Option<ToolEnd>
     ensures { MatchOption result (SaysSome (E.contents errors.old) (E.contents errors.new))
-        (λ end. (text : List ℕ) × (entries : List text_entries.Entry) × (import_of text ≡ Ok entries)
+        (λ end. (entries : List text_entries.Entry) × AreImportedAt (X.holds rt.now) path.now entries
         × Changes (record { session = session.old; errors = E.contents errors.old })
         (record { session = session.new; errors = E.contents errors.new }) (restore_effect session.old entries)
         (LacksMemoryToRestore session.old entries) end) }

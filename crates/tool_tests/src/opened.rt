@@ -145,8 +145,20 @@ impl Alloc for Disk<'_> {
     }
 }
 
-impl System for Disk<'_> {
-    fn try_lock(&self, file: &Opened<'_>, hold: Hold) -> Attempt {
+impl<'a> System for Disk<'a> {
+    ghost holds = { λ _ _ _. Unit {0} };
+
+    ghost wrote = { λ _ _ _. Unit {0} };
+
+    fn open_to_read(&self, path: &str) -> io::Result<Opened<'a>> {
+        self.open_file(OpenOptions::new().read(true), path)
+    }
+
+    fn open_emptied(&self, path: &str) -> io::Result<Opened<'a>> {
+        self.open_file(OpenOptions::new().write(true), path)
+    }
+
+    fn try_lock(&self, file: &Opened<'a>, hold: Hold) -> Attempt {
         let Ok(mut contents) = self.contents.try_borrow_mut() else {
             return Attempt::Failed;
         };
@@ -173,7 +185,7 @@ impl System for Disk<'_> {
         }
     }
 
-    fn lock(&self, file: &Opened<'_>, hold: Hold) -> bool {
+    fn lock(&self, file: &Opened<'a>, hold: Hold) -> bool {
         self.try_lock(file, hold) == Attempt::Locked
     }
 

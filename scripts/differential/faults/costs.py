@@ -146,9 +146,9 @@ def checks():
     found = [b"v49999:1:5: error: `run v50000` names a variable that is not defined [run-undefined]\n"]
     yield check("50,000 scripts, each of which starts the next", whole, {b"env": text}, found, 50_001)
     names = b"".join(b"v%05d=true\n" % at for at in range(30_000))
-    yield check("30,000 scripts that 60,000 commands may start", whole, {b"env": b"bootcmd=" + b"run v$?;" * 60_000 + b"\n" + names}, [], 30_001)
+    yield check("30,000 scripts that 60,000 commands may start", whole, {b"env": b"bootcmd=true;" + b"run v$?;" * 60_000 + b"\n" + names}, [], 30_001)
     each = b"".join(b"run v%05d$?;" % at for at in range(30_000))
-    yield check("30,000 beginnings of as many names", whole, {b"env": b"bootcmd=" + each + b"\n" + names}, [], 30_001)
+    yield check("30,000 beginnings of as many names", whole, {b"env": b"bootcmd=true;" + each + b"\n" + names}, [], 30_001)
     every = b" ".join(b"v%d" % at for at in range(440))
     text = b"bootcmd=run v0\n" + b"".join(b"v%d=run %s\n" % (at, every) for at in range(440))
     yield check("440 scripts, each of which starts all", whole, {b"env": text}, [], 441)

@@ -45,6 +45,11 @@ def whole_check(words, text=b"a=run m x\nm=true\\\n'\nq=a=1; run m\n"):
     return Case("check", [b"check", b"--env", b"text", *words], FILES | {b"text": text})
 
 
+def check_over(environment, script):
+    """A check of a script over a text."""
+    return Case("check", [b"check", b"--env", b"env", b"-f", b"text", b"a"], FILES | {b"env": environment, b"text": script})
+
+
 def power_ons(environment, board):
     return Case("power-ons", [b"boot", b"--env", b"text", b"--board", b"board"], FILES | {b"text": environment, b"board": board})
 
@@ -108,6 +113,7 @@ READING = [
     (b"board", power_ons(b"bootcmd=mmc || booti\n", b"mmc 1 -> 0\nmmc -> ?\nbooti -> boots\n")),
     (b"text", whole_environment([b"-e", b"run a || printenv"])),
     (b"text", whole_check([b"q", b"a"])),
+    (b"text", check_over(b"a=run m x\nm=run n\n", b"run a; mmc2 ||\n")),
     (b"text", script_check(b"mmc 1; mmc2\nif true; then a\r\nfi")),
     (b"text", call([b"check", b"--stubs", b"text", b"a", b"m"], {b"text": STAND_INS + b"x 1\none\n"})),
 ]

@@ -168,18 +168,19 @@ def by_board(script, output, text, errors=b""):
 
 
 def board_files():
-    """As many rules as there may be, as long as lines may be: each is compared with all before it."""
+    """As many rules as there may be, as long as lines may be or of as many words: each is compared with all before it."""
     name = b"p" * 4080 + b"%04d"
     alike = b"".join(name % number + b" -> 7\n" for number in range(512))
     last = name % 511
     yield by_board(last + b"; echo $?", b"+ " + last + b"\n7\n[Finished 0 2]\n", alike)
     covered = alike.removesuffix(last + b" -> 7\n") + name % 0 + b" -> 7\n"
     yield by_board(b"true", b"", covered, b"fwenv: board:512: an earlier line answers all of these calls\n")
-    words = b"".join(b"a " * 2040 + b"%04d -> 7\n" % number for number in range(512))
-    yield by_board(
-        b"a; a " + b"a " * 2039 + b"0511; echo $?", b"Unknown command 'a' - try 'help'\n+ " + b"a " * 2040 + b"0511\n7\n[Finished 0 3]\n", words
-    )
-    beginnings = b"".join(b"a* " * 1300 + b"b%04d* -> 7\n" % number for number in range(512))
+    word = b"a" * 14
+    front = (word + b" ") * 255
+    words = b"".join(front + b"%04d -> 7\n" % number for number in range(512))
+    output = b"Unknown command '%s' - try 'help'\n+ %s0511\n7\n[Finished 0 3]\n" % (word, front)
+    yield by_board(word + b"; " + front + b"0511; echo $?", output, words)
+    beginnings = b"".join(b"a* " * 255 + b"b%04d* -> 7\n" % number for number in range(512))
     yield by_board(b"true", b"[Finished 0 1]\n", beginnings)
     yield by_board(b"true", b"", beginnings + b"x\n", b"fwenv: board:513: more than 512 rules\n")
 

@@ -139,6 +139,7 @@ CHECKS = [
     ("a check with a board", [b"check", b"--env", b"text", b"--board", b"board", b"--known", b"names"], CHECKED_TEXT),
     ("a check of names", [b"check", b"--env", b"text", b"none", b"c", b"b", b"a_variable_of_no_value"], CHECKED_TEXT),
     ("a check of a script", [b"check", b"--stubs", b"stand-ins", b"-f", b"text"], b"mmc\r\n" * 40 + b"a_stand_in_of_a_long_name\n"),
+    ("a check of a script over a text", [b"check", b"--env=text", b"-f", b"names", b"-f", b"stand-ins", b"c"], CHECKED_TEXT),
     ("a check of no script", [b"check", b"-f", b"text"], b"echo a; if true; then echo 'b\r\n"),
     ("a check of scripts as JSON", [b"check", b"--stubs=stand-ins", b"--format=json", b"-f", b"text", b"-f", b"stand-ins"], b'mmc\r\n"a\xff"\n'),
     ("a check as compilers print it", [b"check", b"--env=text", b"--format=gcc", b"c", b"n"], CHECKED_TEXT),

@@ -45,7 +45,7 @@ RUNS = [
     b"true", b"false", b"exit", b"exit 3", b"exit 0", b"echo $a; false", b"setenv a 5; saveenv", b"saveenv; false", b"saveenv; saveenv",
     b"mmc; echo $?; usb", b"usb || mmc", b"mmc; false", b"saveenv; mmc x; echo a", b"run q", b"run a b", b"printenv -a", b"setenv o 2; setenv n x; saveenv",
     b"echo a\n  'b", b"true\n\nif false; then", b"a=1; fi", b"\xc3\xa9 ${a", b"a & b",
-    b"echo a; echo ${o:-1}", b"echo b", b"test -n a && echo a", b"setenv n; printenv n || true", b"for i in a b; do echo $i; done",
+    b"echo a; echo ${o:-1}", b"echo ${", b"echo b", b"test -n a && echo a", b"setenv n; printenv n || true", b"for i in a b; do echo $i; done",
 ]  # fmt: skip
 GIVEN_STAND_INS = [*STAND_INS, *[b"mmc\nusb 1\n"] * 4, b"[\nmmc\nf() 1\n"]
 GIVEN_BOARDS = [*BOARDS, *[b"mmc x -> setenv a ${1}\nmmc -> 1\nusb -> boots\n"] * 6, b"m* -> run a\nusb -> exit 2\n"]
@@ -238,7 +238,7 @@ class Calls:
         return text_of(found)
 
     def checked(self, is_whole):
-        """The options and the names of a check: of a text, of copies, or, as if that were a text, of one script."""
+        """The options and the names of a check: of a text or of copies, of scripts in files over these, or, as if that were a text, alone."""
         options = [self.option(b"--shell", self.numbers.choice(SHELLS))]
         if self.chance(60):
             options.append(self.option(b"--stubs", self.text(b"stand-ins", self.numbers.choice(GIVEN_STAND_INS))))
@@ -246,9 +246,11 @@ class Calls:
             options.append(self.option(b"--board", self.text(b"board", self.numbers.choice([*GIVEN_BOARDS, *ASKING]))))
         if self.chance(2 if is_whole else 15):
             options.append(self.option(b"--known", self.text(b"names", self.numbers.choice(KNOWN))))
-        if is_whole and self.chance(40):
-            options += [self.option(b"-f", self.script_file(number)) for number in range(self.numbers.choice([1, 1, 1, 2, 3]))]
-            return options, self.some(CHECKED, 1) * self.chance(5)
+        files = [self.option(b"-f", self.script_file(number)) for number in range(self.numbers.choice([1, 1, 1, 2, 3]))]
+        if is_whole and self.chance(35):
+            return options + files, self.some(CHECKED, 1) * self.chance(5)
+        if self.chance(15):
+            options += files
         if is_whole:
             options.append(self.option(b"--env", self.text(b"env", self.scripts_text())))
             if self.chance(15):

@@ -12,9 +12,25 @@ OFTEN = {"status 0": 0.1, "never boot": 0.2, "only if a limit": 0.01, "a limit w
 TEXTS = [b"0", b"1", b"2"]
 SAVED = [b"x", b"y", b"slot"]
 STARTED = [b"a", b"b", b"preboot", b"altbootcmd"]
-# What a count depends on, and its values
+# What a count depends on, its values, and types and accesses that may refuse one
 COUNTED = [b"upgrade_available", b"upgrade_available", b"bootcount", b"bootlimit"]
-NUMBERS = [b"0", b"1", b"1", b"2", b"3x", b"01", b"-1", b"yes", b"4294967295"]
+NUMBERS = [
+    b"0",
+    b"1",
+    b"1",
+    b"2",
+    b"3x",
+    b"01",
+    b"-1",
+    b"yes",
+    b"0x1",
+    b"0X2g",
+    b"0x",
+    b"4294967296",
+    b"18446744073709551615",
+    b"18446744073709551617",
+]
+REFUSED = [b"bootcount:so", b"bootcount:dc", b"bootcount:sr", b"bootcount:b", b"bootlimit:dr,bootcount:do"]
 # Calls of the board, and rules for them, of which each file has some that ask
 CALLS = [b"load mmc 0:1 a", b"load mmc 0:2 a", b"load mmc ${x} a", b"load usb ${slot}", b"dhcp", b"dhcp ${slot}", b"mmc dev 0", b"env default -a"]
 FILES = [b"test -e mmc 0:1 a", b"test -e mmc ${x} a", b"test ! -e usb 0 b"]
@@ -81,6 +97,8 @@ class Boards:
             found[b"bootcmd"] = front + self.script(2) + self.any([b"", b"; bootz", b"; reset", b"; setenv y 2; saveenv; reset"])
         if self.chance(60):
             found |= {name: self.any(NUMBERS) for name in COUNTED}
+            if self.chance(25):
+                found[b".flags"] = self.any(REFUSED)
         if self.chance(15):
             found[b"bootdelay"] = self.any([b"-1", b"0", b"-2"])
         return found

@@ -88,7 +88,9 @@ REFUSED = [
     (b"echo ->0", 1, "Form"),
     (b"mmc\n -> 0", 2, "NoPattern"),
     (b"->", 1, "NoPattern"),
-    (b"-" + b" a" * 64 + b" -> 0", 1, "Minus"),
+    (b"a" + b" a" * 256 + b" -> 0", 1, "Words"),
+    (b"-" + b" a" * 256 + b" -> 0", 1, "Words"),
+    (b"-" + b" a" * 255 + b" -> 0", 1, "Minus"),
     (b"-setexpr 1", 1, "Minus"),
     (b"-setexpr.b", 1, "Minus"),
     (b"mmc\n-dhcp", 2, "Minus"),
@@ -117,7 +119,7 @@ REFUSED = [
 ]
 # And lines that are close to these
 ACCEPTED = [
-    b"", b"a" + b" a" * 63 + b" -> 0", b"\r\n \t\n", b"mmc->0 -> 1", b"mmc -> 000255", b"echo.b\nech* 1\nset.* 1\n[", b"load mmc -> 1\nload mm* -> 0\nload",
+    b"", b"a" + b" a" * 255 + b" -> 0", b"\r\n \t\n", b"mmc->0 -> 1", b"mmc -> 000255", b"echo.b\nech* 1\nset.* 1\n[", b"load mmc -> 1\nload mm* -> 0\nload",
     b"load* a -> 0\nload -> 1", b"env s* -> boots\nenv", b"setexpr.q 1\nsetexpr.* -> true\nsetexpr", b"mmc -> ? || boots", b"mmc -> exit ${1}; resets", b"test* -e -> boots", b"-printenv\n-exit\nenv default -> 0\n-env", b"reset -> resets\nbooti -> boots",
     b"".join(b"a%d\n" % number for number in range(512)),
 ]  # fmt: skip

@@ -295,7 +295,18 @@ stored 3
 3 stored environments, 2 ways: 1 boot, 1 reset, 0 give up, 0 unknown
 """ + LIMIT, b"--bootcount", b"--stored=2"),
     ("texts that no number begins", b"upgrade_available=yes\nbootlimit=-1\nbootcount=x\nbootcmd=bootm ${bootcount}\naltbootcmd=reset", TOP, boots(b"bootm 1"), b"--bootcount"),
-    ("no decimal number", b"upgrade_available=1\nbootlimit=0x1\nbootcount=0x5\nbootcmd=setenv upgrade_available 0; saveenv; bootm ${bootcount}\naltbootcmd=reset", TOP, b"""stored 1
+    ("hexadecimal numbers", b"upgrade_available=0x1\nbootlimit=0X10\nbootcount=0xFg\nbootcmd=bootm ${bootcount}\naltbootcmd=setenv upgrade_available 0; saveenv; bootm 2", TOP, b"""stored 1
+  boots: bootm 16; stored 2
+stored 2
+  bootcount=16
+  boots: bootm 2; stored 3
+stored 3
+  bootcount=17
+  upgrade_available=0
+  boots: bootm 1; stored 3
+3 stored environments, 3 ways: 3 boot, 0 reset, 0 give up, 0 unknown
+""", b"--bootcount"),
+    ("no hexadecimal number", b"upgrade_available=1\nbootlimit=0xg\nbootcount=00x5\nbootcmd=setenv upgrade_available 0; saveenv; bootm ${bootcount}\naltbootcmd=reset", TOP, b"""stored 1
   boots: bootm 1; stored 2
 stored 2
   bootcount=1
@@ -303,14 +314,42 @@ stored 2
   boots: bootm 1; stored 2
 2 stored environments, 2 ways: 2 boot, 0 reset, 0 give up, 0 unknown
 """, b"--bootcount"),
-    ("the largest count", b"upgrade_available=1\nbootlimit=4294967295\nbootcount=99999999999\nbootcmd=bootm\naltbootcmd=reset", TOP, b"""stored 1
+    ("the largest count", b"upgrade_available=1\nbootlimit=18446744073709551614\nbootcount=0xfffffffffffffffe\nbootcmd=bootm ${bootcount}\naltbootcmd=reset", TOP, b"""stored 1
   resets: reset; stored 2
 stored 2
-  bootcount=4294967296
+  bootcount=18446744073709551615
+  boots: bootm 0; stored 3
+stored 3
+  bootcount=0
+3 stored environments, 2 ways: 1 boot, 1 reset, 0 give up, 0 unknown
+""" + LIMIT, b"--bootcount", b"--stored=2"),
+    ("numbers beyond 64 bits", b"upgrade_available=1\nbootlimit=18446744073709551618\nbootcount=0x10000000000000002\nbootcmd=reset\naltbootcmd=setenv upgrade_available 0; saveenv; bootm ${bootcount}", TOP, b"""stored 1
+  boots: bootm 3; stored 2
+stored 2
+  bootcount=3
+  upgrade_available=0
   resets: reset; stored 2
-2 stored environments, 2 ways: 0 boot, 2 reset, 0 give up, 0 unknown
-2 stored environments never boot again, the first of them after:
+2 stored environments, 2 ways: 1 boot, 1 reset, 0 give up, 0 unknown
+1 stored environment never boots again, after:
+  stored 1: boots: bootm 3; stored 2
 """, b"--bootcount"),
+    ("an upgrade beyond 32 bits", b"upgrade_available=4294967296\nbootlimit=1\nbootcount=7\nbootcmd=bootm ${bootcount}\naltbootcmd=reset", TOP, boots(b"bootm 1"), b"--bootcount"),
+    ("a count that is written once", b".flags=bootcount:so\nupgrade_available=1\nbootlimit=2\nbootcount=2\npreboot=setenv y 1\nbootcmd=bootm ${bootcount}\naltbootcmd=reset", TOP, b"""stored 1
+  boots: bootm 2; stored 2
+stored 2
+  y=1
+  boots: bootm 2; stored 2
+2 stored environments, 2 ways: 2 boot, 0 reset, 0 give up, 0 unknown
+""", b"--bootcount"),
+    ("one beyond the limit", b".flags=bootcount:so\nupgrade_available=1\nbootlimit=2\nbootcount=3\nbootcmd=reset\naltbootcmd=bootm ${bootcount}", TOP, boots(b"bootm 3"), b"--bootcount"),
+    ("one that changes from its default", b".flags=bootcount:sc\nupgrade_available=1\nbootlimit=2\nbootcount=1\nbootcmd=bootm ${bootcount}\naltbootcmd=reset", TOP, b"""stored 1
+  boots: bootm 2; stored 2
+stored 2
+  bootcount=2
+  boots: bootm 2; stored 2
+2 stored environments, 2 ways: 2 boot, 0 reset, 0 give up, 0 unknown
+""", b"--bootcount"),
+    ("a count of another type", b".flags=bootcount:b\nupgrade_available=1\nbootlimit=1\nbootcount=1\nbootcmd=bootm ${bootcount}\naltbootcmd=reset", TOP, boots(b"bootm 1"), b"--bootcount"),
     ("counted without a delay", b"bootdelay=-1\nupgrade_available=1\nbootcmd=bootm", TOP, b"""stored 1
   gives up; stored 2
 stored 2
@@ -338,6 +377,7 @@ stored 3
 3 stored environments, 8 ways: 4 boot, 4 reset, 0 give up, 0 unknown
 """ + LIMIT, b"--bootcount", b"--stored=2"),
     ("a full environment", b"upgrade_available=1\nbootcmd=bootm ${bootcount}", TOP, boots(b"bootm"), b"--bootcount", b"--size=0x3c"),
+    ("a full environment at the limit", b"upgrade_available=1\nbootlimit=9\nbootcount=9\nbootcmd=reset\naltbootcmd=bootm ${bootcount}", TOP, boots(b"bootm 9"), b"--bootcount", b"--size=0x5d"),
     ("counted by the strict shell", b"preboot=false\nupgrade_available=1\nbootlimit=1\nbootcmd=false || bootm\naltbootcmd=setenv upgrade_available 0; saveenv; bootm 2", TOP, b"""stored 1
   boots: bootm; stored 2
 stored 2

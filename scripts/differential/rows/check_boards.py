@@ -6,7 +6,7 @@ import re
 from differential.harness.boards import STRICT, text_of
 
 from differential.harness.check_lines import (
-    lacked_test, lines, no_script, not_assigned, not_called, not_defined, not_run, on_board, place, returned, row, with_stand_ins,
+    lacked_test, lines, mixes, no_script, not_assigned, not_called, not_defined, not_run, on_board, place, returned, row, with_stand_ins,
 )  # fmt: skip
 from differential.harness.rows import TOP, examples
 from differential.harness.rows import boards as rows_of_boards
@@ -14,8 +14,11 @@ from differential.harness.running import Case
 from model.texts import stand_ins
 
 # What is found in boards as they are: a run of the first ends with this; those of swupdate try it at their end; two words
-# of a kernel's arguments, and the address that two boards of RAUC load to, are given by nothing
+# of a kernel's arguments, and the address that two boards of RAUC load to, are given by nothing; three choose by a chain that a board
+# takes otherwise
 FOUND = {
+    "a-rescue": [mixes("1:42")],
+    **{name: [mixes("1:89")] for name in ("switch-of-two-slots", "switch-without-a-count")},
     "no-way-back": [not_run("1:38", "altbootcmd")],
     **{f"swupdate-{name}": [not_assigned("1:239", "ustate")] for name in ("failed", "installed", "tried-in-vain")},
     "kernel-arguments": [not_defined("1:70", "optargs"), not_defined("1:81", "more")],

@@ -4,9 +4,9 @@ over an environment and alone, with stand-ins and without."""
 from differential.harness.boards import STRICT
 
 from differential.harness.check_lines import (
-    any_target, cuts, exits, lacked, lacked_test, lines, no_calculation, no_expression, no_functions, no_operator, no_operator_of_board, no_script, no_subcommand,
-    not_assigned, not_called, not_defined, not_run, runs_nothing,
-    of_file, on_board, over, place, returned, row, several, with_stand_ins, without,
+    any_target, cuts, exits, lacked, lacked_test, lines, mixes, no_calculation, no_expression, no_functions, no_operator, no_operator_of_board, no_script, no_subcommand,
+    not_assigned, not_called, not_defined, not_run, of_if, of_loop, runs_nothing,
+    of_file, on_board, over, place, returned, row, several, stale, with_stand_ins, without,
 )  # fmt: skip
 from differential.rows.script_faults import EMPTY_BODIES, NEAR_SCRIPTS, NO_SCRIPTS, NO_STAND_INS, NULS
 
@@ -22,7 +22,7 @@ STARTS = [
     (b"echo a\n\n  run none", [not_run("3:7", "none")]),
     (b"\trun\tnone", [not_run("1:6", "none")]),
     (b"echo \xc3\xa9; run none", [not_run("1:14", "none")]),
-    (b"true && run n1 || run n2", [not_run("1:13", "n1"), not_run("1:23", "n2")]),
+    (b"true && run n1 && run n2", [not_run("1:13", "n1"), not_run("1:23", "n2")]),
     (b"if run n1; then run n2; elif run n3\nthen run n4; else run n5; fi", several(not_run, "1:8 n1 1:21 n2 1:34 n3 2:10 n4 2:23 n5")),
     (b"while run n1; do run n2; done", [not_run("1:11", "n1"), not_run("1:22", "n2")]),
     (b"until run n1; do run n2; done", [not_run("1:11", "n1"), not_run("1:22", "n2")]),
@@ -47,6 +47,7 @@ STARTS = [
     (
         b'run $none ${none} "$none" n$x $? $',
         [
+            stale("1:1"),
             *map(any_target, ("1:5", "1:11", "1:19")),
             not_run("1:27", "nnone"),
             any_target("1:31"),
@@ -57,7 +58,7 @@ STARTS = [
         ],
     ),
     (b"run $x none", [not_run("1:5", "none"), not_run("1:8", "none")]),
-    (b"run n$x 'n'${x} ''$x \"$x\"n $?n", [*several(not_run, "1:5 nnone 1:9 nnone 1:17 none 1:22 nonen"), any_target("1:28")]),
+    (b"run n$x 'n'${x} ''$x \"$x\"n $?n", [stale("1:1"), *several(not_run, "1:5 nnone 1:9 nnone 1:17 none 1:22 nonen"), any_target("1:28")]),
     (b'$run none; ${x} none; "$run" none; r$x none', []),
     (b"env $x none; env x run none; run", [no_subcommand("1:14"), runs_nothing("1:30")]),
     (b"Run none; echo run none; setenv b run none; b='run none'", []),
@@ -104,7 +105,7 @@ ASSIGNED = [
     (b"s=2", [not_assigned("1:1", "s")]),
     (b"\\\n a=2", [not_assigned("2:2", "a")]),
     (b"a\\\n=2", [not_assigned("1:1", "a")]),
-    (b"true && a=2 || a=3", [not_assigned("1:9", "a"), not_assigned("1:16", "a")]),
+    (b"true && a=2 && a=3", [not_assigned("1:9", "a"), not_assigned("1:16", "a")]),
     (b"if a=1; then a=2; else a=3; fi", several(not_assigned, "1:4 a 1:14 a 1:24 a")),
     (b"for a in 1 2; do true; done", [not_assigned("1:5", "a")]),
     (b"for \\\n a in 1 2; do true; done", [not_assigned("2:2", "a")]),
@@ -122,7 +123,7 @@ CALLED = [
     (b"load mmc 0:1; usb; mmc", []),
     (b"load\n\t laod mmc", [not_called("2:3", "laod")]),
     (b"laod; laod", [not_called("1:1", "laod"), not_called("1:7", "laod")]),
-    (b"mmc && laod || laod2 && usb", [not_called("1:8", "laod"), not_called("1:16", "laod2")]),
+    (b"mmc && laod && laod2 && usb", [not_called("1:8", "laod"), not_called("1:16", "laod2")]),
     (b"if c1; then c2; elif c3; then c4; else c5; fi", several(not_called, "1:4 c1 1:13 c2 1:22 c3 1:31 c4 1:40 c5")),
     (b"for c0 in c1; do c2; done", [not_called("1:18", "c2")]),
     (b"while c1; do c2; done\nuntil c3; do c4; done", several(not_called, "1:7 c1 1:14 c2 2:7 c3 2:14 c4")),
@@ -238,7 +239,7 @@ LACKED = [
     (b"[; [[", [lacked_test("1:1", "["), lacked_test("1:4", "[[")]),
     (b"if [ $x = 1 ]; then true; fi", [lacked_test("1:4", "[")]),
     (b"until [[ a ]]; do true; done", [lacked_test("1:7", "[[")]),
-    (b"true && [ a ] || [[ b ]]", [lacked_test("1:9", "["), lacked_test("1:18", "[[")]),
+    (b"true && [ a ] && [[ b ]]", [lacked_test("1:9", "["), lacked_test("1:18", "[[")]),
     (b"while true; do break; done", [lacked("1:16", "break")]),
     (b"for i in 1 2; do if test $i = 1; then continue; fi; done", [lacked("1:39", "continue")]),
     (b"return", [lacked("1:1", "return")]),
@@ -280,7 +281,7 @@ SUBSTITUTED = [
     (b"echo $none ${none}\n echo none2", [not_defined("1:6", "none"), not_defined("1:12", "none")]),
     (b"echo $n1$n2${n1}", several(not_defined, "1:6 n1 1:6 n2 1:6 n1")),
     (b"echo $none${none}\"$none\" $none", [not_defined("1:6", "none"), not_defined("1:26", "none")]),
-    (b"echo $none$a-$none$x${none} $none$?", [not_defined("1:6", "none"), not_defined("1:29", "none")]),
+    (b"true; echo $none$a-$none$x${none} $none$?", [not_defined("1:12", "none"), not_defined("1:35", "none")]),
     (b"echo $n1$n1$n2$n2$n1", several(not_defined, "1:6 n1 1:6 n2 1:6 n1")),
     (b"b=$none$none; for b in $none$none$?; do true; done", [not_defined("1:3", "none"), not_defined("1:24", "none")]),
     (b"$none; \"$none\" a; l$none", several(not_defined, "1:1 none 1:8 none 1:19 none")),
@@ -293,7 +294,7 @@ SUBSTITUTED = [
     (b"b\\\n=$none", [not_defined("2:2", "none")]),
     (b"b=\\\n$none", [not_defined("1:3", "none")]),
     (b"b==$none; c=a=$none", [not_defined("1:3", "none"), not_defined("1:13", "none")]),
-    (b"for b in a $none 'x'$none; do true; done", [not_defined("1:12", "none"), not_defined("1:18", "none")]),
+    (b"for b in a $none x$none; do true; done", [not_defined("1:12", "none"), not_defined("1:18", "none")]),
     (
         b"if echo $n1; then echo $n2; elif echo $n3\nthen b=$n4; else echo $n5; fi",
         several(not_defined, "1:9 n1 1:24 n2 1:39 n3 2:8 n4 2:23 n5"),
@@ -302,7 +303,7 @@ SUBSTITUTED = [
         b"while echo $n1; do echo $n2; done; until echo $n3; do for b in $n4; do echo $n5; done; done",
         several(not_defined, "1:12 n1 1:25 n2 1:47 n3 1:64 n4 1:77 n5"),
     ),
-    (b"true && echo $n1 || echo $n2", [not_defined("1:14", "n1"), not_defined("1:26", "n2")]),
+    (b"true && echo $n1 && echo $n2", [not_defined("1:14", "n1"), not_defined("1:26", "n2")]),
     (b"laod $none", [not_called("1:1", "laod"), not_defined("1:6", "none")]),
     (b"run $none lost", [any_target("1:5"), not_run("1:11", "lost"), not_defined("1:5", "none")]),
     (b"a=$none", [not_assigned("1:1", "a"), not_defined("1:3", "none")]),
@@ -314,7 +315,7 @@ SUBSTITUTED = [
     (b"none; echo $none", [not_called("1:1", "none"), not_defined("1:12", "none")]),
     (b"'none' a; echo ${none}", [not_called("1:1", "none"), not_defined("1:16", "none")]),
     (b"echo nones non None none= $none", [not_defined("1:27", "none")]),
-    (b"echo 'none x' none$x none$? \"none\"$a $none", [not_defined("1:38", "none")]),
+    (b"true; echo 'none x' none$x none$? \"none\"$a $none", [not_defined("1:44", "none")]),
     (b"for b in none; do echo $none; done", [not_defined("1:24", "none")]),
     (b"b=none; echo $none", [not_defined("1:14", "none")]),
     (b"test2 $none; echo $none", [not_called("1:1", "test2"), not_defined("1:7", "none"), not_defined("1:19", "none")]),
@@ -337,7 +338,7 @@ SUBSTITUTED = [
 ]  # fmt: skip
 # Of these each is defined
 DEFINED = [
-    b"echo $a ${x} $s$run ${\xc3\xa9}", b"echo '$none' \\$none \"\\$none\" $ $, $? \"$?\"", b"none=1; echo $none", b"echo $none; none=",
+    b"echo $a ${x} $s$run ${\xc3\xa9}", b"true; echo '$none' \\$none \"\\$none\" $ $, $? \"$?\"", b"none=1; echo $none", b"echo $none; none=",
     b"none=a$none", b"for none in 1; do echo $none; done; echo $none", b"for none in $none; do true; done", b"setenv none 1; echo $none",
     b"echo $none; setenv none", b"setenv -f none 1; b=$none", b"setexpr none 1 + 2; echo $none", b"env exists none && echo $none",
     b"echo $none none", b"echo ${none}; printenv none", b"setenv 'none' 1; echo $none", b"setenv no\"n\"\\e 1; echo $none",
@@ -390,9 +391,68 @@ BY_RULES = [
 DIFFERENCES = [
     (b"exit", [exits("1:1")]),
     (b"true && 'ex'it 3; if true; then exit $a; fi; echo exit", several(exits, "1:9 a 1:33 a")),
-    (b"for i in a 'b c' d\\ e 'f\ng' h\\\ti 'j k'$a; do exit; done", [cuts("1:12"), cuts("1:18"), cuts("1:23"), exits("2:21")]),
-    (b"for i in '' \"a b\"; do true; done; echo 'a b'; x='a b'", [cuts("1:13")]),
+    (b"for i in a 'b c' d\\ e 'f\ng' h\\\ti 'j k'$a; do exit; done", [cuts("1:12"), cuts("1:18"), cuts("1:23"), cuts("2:9"), exits("2:21")]),
+    (b"for i in '' \"a b\"; do true; done; echo 'a b'; x='a b'", [cuts("1:10"), cuts("1:13")]),
+    (b'for i in "$a" x"$a" ""$a ""x \'y\'\\z $a "$?"; do exit; done', [stale("1:5"), *several(cuts, "1:10 a 1:15 a 1:21 a 1:39 a"), exits("1:48")]),
+    # chains: behind another operator than the first one
+    (b"true && false || true", [mixes("1:18")]),
+    (b"true || false && true || true && exit", [mixes("1:18"), mixes("1:34"), exits("1:34")]),
+    (b"true && false && true; true || false || true", []),
+    (b"true && if false || true; then true; else true; fi && true", []),
+    (b"true || true && if false; then true; else true; fi", [mixes("1:20")]),
+    (b"true && false ||\n\n  z=1", [mixes("3:3")]),
+    (b"true && false || for i in a; do true; done", [mixes("1:22")]),
+    (b"while true || true && false; do true && true || true; done", [mixes("1:23"), mixes("1:49")]),
+    # an `if` without `else` whose status is asked for
+    (b"if true; then false; fi", []),
+    (b"if true; then false; fi; true", []),
+    (b"if true; then false; fi && true", [of_if("1:4")]),
+    (b"if true; then false; elif true; then false; fi || true", [of_if("1:4")]),
+    (b"if true; then false; else true; fi || true", []),
+    (b"true && if true; then false; fi", []),
+    (b"if if true; then false; fi; then true; fi", [of_if("1:7")]),
+    (b"if if if true; then false; fi; then true; fi; then true; fi && true", [of_if("1:10")]),
+    (b"if true; then if true; then false; fi; fi && true", [of_if("1:4"), of_if("1:18")]),
+    (b"if true; then if true; then false; fi; true; else if true; then true; fi; fi && true", [of_if("1:54")]),
+    (b"while true; if true; then false; fi; do if true; then true; fi; done", [of_if("1:16")]),
+    (b"until if true; then false; fi; true; do true; done", []),
+    (b"if true; then true; fi; echo $?", [of_if("1:4")]),
+    (b"echo '$?'; if true; then true; fi", []),
+    (b"echo '$?'; if true; then true; fi; true", [of_if("1:15")]),
+    (b"for i in a; do if true; then true; fi; done || true", [of_if("1:19")]),
+    (b"for i in a; do if true; then true; fi; true; done || true", []),
+    (b"if true; then\n z=1\nfi && true", [of_if("1:4")]),
+    (b"if z=1; then true; fi && true; if for i in b; do true; done; then true; fi && true", [of_if("1:4"), of_if("1:39")]),
+    # a loop whose status is asked for
+    (b"while false; do true; done; until true; do true; done", []),
+    (b"while false; do true; done && true", [of_loop("1:7")]),
+    (b"until true; do true; done || true", [of_loop("1:7")]),
+    (b"for i in a; do true; done || true", []),
+    (b"if while false; do true; done; then true; fi", [of_loop("1:10")]),
+    (b"while while false; do true; done; do true; done", [of_loop("1:13")]),
+    (b"while until true; do true; done; true; do while false; do true; done; done", []),
+    (b"true; while false; do while false; do true; done; done; echo $?", [of_loop("1:13"), of_loop("1:29")]),
+    (b"if while true; do true; done; then true; fi && true", [of_if("1:10"), of_loop("1:10")]),
+    (b"true && true || while false; do exit; done && true", [mixes("1:23"), of_loop("1:23"), exits("1:33")]),
+    # `$?` before any command
+    (b"echo $?", [stale("1:1")]),
+    (b"\n true$? a; echo $?", [stale("2:2")]),
+    (b"true; echo $?; z=$?", []),
+    (b"z=$?; echo $?", [stale("1:1")]),
+    (b'if echo "$?"; then echo $?; else echo $?; fi', [stale("1:4")]),
+    (b"while until echo x$?; do true; done; do true; done", [of_loop("1:13"), stale("1:13")]),
+    (b"echo a && echo $?", []),
+    (b"for i in a $?; do echo $?; done", [stale("1:5"), stale("1:19")]),
+    (b"true; for i in a; do if true $?; then echo $?; else true; fi; done", [stale("1:25")]),
+    (b"true; for i in $?; do true; echo $?; done", []),
+    (b"echo '$?' \\$? ${a}", []),
 ]
+# What is found in what is close to no script
+NEAR_FOUND = {
+    b"echo ${a} $? $": [stale("1:1")],
+    b"false || true && echo b": [mixes("1:18")],
+    b"until " * 64 + b"true" + b"; do true; done" * 64: [of_loop("1:385")],
+}
 # More than one kind in a script: the carriage return first, then the commands in the order of the text
 MIXED = b"laod; run n; a=2\r\nrun s; for ok in a; do usb $none; laod n; done"
 MIXED_FOUND = [
@@ -430,7 +490,8 @@ def no_scripts():
         yield of_file(script, [], b"")
         yield over({b"a": b"1", b"s": script}, [b"s"], b"")
     for script, _ in NEAR_SCRIPTS:
-        yield from each_way(script, [exits(place(script, at)) for at in [script.find(b"exit")] if at >= 0])
+        found = [exits(place(script, at)) for at in [script.find(b"exit")] if at >= 0]
+        yield from each_way(script, NEAR_FOUND.get(script, found))
     for script, line, column in NULS:
         yield of_file(script, [], lines([no_script(f"{line}:{column}", "Nul")], "a:1 b"))
     for script, found in RETURNS + DIFFERENCES + [each for each in BOARD_OPERATORS if each[1] is not None]:
@@ -448,7 +509,7 @@ def starts():
     for script, found in [*STARTS, *((script, []) for script in FORESEEN), *ASSIGNED]:
         yield over(VARIABLES | {b"s": script}, [b"s"], lines(on_board(found), "s"))
         yield over(VARIABLES | {b"s": script}, [b"s", *STRICT], lines(found, "s"))
-        yield of_file(script, [], lines([each for each in found if each.endswith("[wrong-use]")], "a:1 b"))
+        yield of_file(script, [], lines([each for each in found if each.endswith(("[wrong-use]", "[stale-status]"))], "a:1 b"))
         if not found:
             yield over(VARIABLES | {b"s": script}, [b"s", b"ok", b"a"], b"")
     over_these = {name: value for name, value in VARIABLES.items() if name != b"a"}

@@ -6,8 +6,8 @@ import re
 from differential.harness.boards import CONFIG, STRICT, arguments, board, calls, text_of
 
 from differential.harness.check_lines import (
-    NOTHING, any_target, cut_off, hidden, lacked, last, lines, no_script, no_operator_of_board, no_variable, not_assigned, not_called, not_defined, not_run, not_typed, on_board, returned,
-    row, with_stand_ins, without,
+    NOTHING, any_target, cut_off, hidden, lacked, last, lines, no_script, no_operator_of_board, no_variable, not_assigned, not_called, not_defined, not_run, not_typed, of_if, of_loop, on_board, returned,
+    row, stale, with_stand_ins, without,
 )  # fmt: skip
 from differential.harness.running import Case
 from differential.rows import check_kinds
@@ -49,30 +49,47 @@ FOLLOWED = [
     (b"a=run b\nb=run a c\nc=run c; run n\n", [b"a"], [not_run("c:1:12", "n")]),
     (b"a=run b\nb=run n\n", [b"b", b"a"], [not_run("b:1:5", "n")]),
     (b"a=run c b\nb=run n1\nc=run n2\n", [b"a", b"b"], [not_run("b:1:5", "n1"), not_run("c:1:5", "n2")]),
-    (b"bootcmd=true && run 'it''s' || run two\\\\ words\nits=run n1\ntwo words=run n2\n", [], [not_run("its:1:5", "n1"), not_run("two words:1:5", "n2")]),
+    (b"bootcmd=true && run 'it''s' && run two\\\\ words\nits=run n1\ntwo words=run n2\n", [], [not_run("its:1:5", "n1"), not_run("two words:1:5", "n2")]),
     (b"bootcmd=env run a\na=run n\n", [], []),
     (b"bootcmd=if false; then while false; do run a; done; fi\na=run n\n", [], [not_run("a:1:5", "n")]),
     (b"bootcmd=for i in 1 2; do run a$i; run \"$x\"; done\na1=run n\nx=a1\n", [], [any_target("bootcmd:1:31"), not_run("a1:1:5", "n")]),
-    (b"bootcmd=run boot_$?\nboot_b=run n2\nboot_a=run n1\nboot=run n3\naboot_=run n4\n", [], [not_run("boot_a:1:5", "n1"), not_run("boot_b:1:5", "n2")]),
-    (b"bootcmd=run x_$? b x_1\nb=run n\nx_2=run n2\nx_1=run n1 x_3\nx_3=run n3\n", [], [not_run(f"x_{n}:1:5", f"n{n}") for n in (1, 2, 3)] + [not_run("b:1:5", "n")]),
-    (b"bootcmd=run b x_$?\nb=run n\nx_1=run n1\n", [], [not_run("b:1:5", "n"), not_run("x_1:1:5", "n1")]),
-    (b"bootcmd=run 'x'_\"$?\"y$? x_$?; run x_2\nx_=run n1\nx_2=run n2\nx=run n3\n", [], [not_run("x_:1:5", "n1"), not_run("x_2:1:5", "n2")]),
-    (b"bootcmd=run boot$? X$?\nbootcmd2=run n\nx=run m\n", [], [not_run("bootcmd2:1:5", "n")]),
-    (b"bootcmd=run $?x ''$? z$?\nx=run n\n", [], [any_target("bootcmd:1:5"), any_target("bootcmd:1:9")]),
-    (b"a=run \xc3\xa9$?\n\xc3\xa9=run n\n\xc3\xaa=run m\n", [b"a"], [not_run("\u00e9:1:5", "n")]),
-    (b"bootcmd=env run a$?; ru$? a; echo run a$?\na=run n\n", [], []),
+    (b"bootcmd=run boot_$?\nboot_b=run n2\nboot_a=run n1\nboot=run n3\naboot_=run n4\n", [], [stale("bootcmd:1:1"), not_run("boot_a:1:5", "n1"), not_run("boot_b:1:5", "n2")]),
+    (b"bootcmd=run x_$? b x_1\nb=run n\nx_2=run n2\nx_1=run n1 x_3\nx_3=run n3\n", [], [stale("bootcmd:1:1"), *(not_run(f"x_{n}:1:5", f"n{n}") for n in (1, 2, 3)), not_run("b:1:5", "n")]),
+    (b"bootcmd=run b x_$?\nb=run n\nx_1=run n1\n", [], [stale("bootcmd:1:1"), not_run("b:1:5", "n"), not_run("x_1:1:5", "n1")]),
+    (b"bootcmd=run 'x'_\"$?\"y$? x_$?; run x_2\nx_=run n1\nx_2=run n2\nx=run n3\n", [], [stale("bootcmd:1:1"), not_run("x_:1:5", "n1"), not_run("x_2:1:5", "n2")]),
+    (b"bootcmd=run boot$? X$?\nbootcmd2=run n\nx=run m\n", [], [stale("bootcmd:1:1"), not_run("bootcmd2:1:5", "n")]),
+    (b"bootcmd=run $?x ''$? z$?\nx=run n\n", [], [stale("bootcmd:1:1"), any_target("bootcmd:1:5"), any_target("bootcmd:1:9")]),
+    (b"a=run \xc3\xa9$?\n\xc3\xa9=run n\n\xc3\xaa=run m\n", [b"a"], [stale("a:1:1"), not_run("\u00e9:1:5", "n")]),
+    (b"bootcmd=env run a$?; ru$? a; echo run a$?\na=run n\n", [], [stale("bootcmd:1:1")]),
     (b"bootcmd=run a '\na='\n", [], [no_script("bootcmd:1:7", "Quote")]),
     (b"bootcmd=run a; run b\na=echo '\nb=run n\n", [], [no_script("a:1:6", "Quote"), not_run("b:1:5", "n")]),
     (b"bootcmd=run a; x=1\na=x=2\nx=1\n", [], [not_assigned("bootcmd:1:8", "x"), not_assigned("a:1:1", "x")]),
     (b"bootcmd=echo a\\\n  run n\n", [], [not_run("bootcmd:2:7", "n")]),
     (b".flags=run:sr\n.s=run n\n", [b".s", b".flags"], [not_run(".s:1:5", "n")]),
+    # what asks for the status of a script
+    (b"bootcmd=run a\na=if true; then true; fi\n", [], []),
+    (b"bootcmd=run a && true\na=if true; then true; fi\n", [], [of_if("a:1:4")]),
+    (b"bootcmd=run a a\na=if true; then true; fi\n", [], [of_if("a:1:4")]),
+    (b"bootcmd=run b a\na=if true; then true; fi\nb=true\n", [], []),
+    (b"bootcmd=run a; echo $?\na=if true; then true; fi\n", [], [of_if("a:1:4")]),
+    (b"bootcmd=run a; true\na=if true; then true; fi\n", [], []),
+    (b"bootcmd=if run a; then true; fi\na=run b\nb=while false; do true; done\n", [], [of_loop("b:1:7")]),
+    (b"bootcmd=if true; then run a; fi\na=run b\nb=while false; do true; done\n", [], []),
+    (b"bootcmd=run a || true\na=run b; true\nb=if true; then true; fi\n", [], []),
+    (b"bootcmd=run c; run a || true\nc=run b\na=run b\nb=if true; then true; fi\n", [], [of_if("b:1:4")]),
+    (b"bootcmd=run a_${b} && true\na_1=if true; then true; fi\na_2=run c\nc=until true; do true; done\nb=1\n", [], [of_if("a_1:1:4"), of_loop("c:1:7")]),
+    (b"bootcmd=run a && true\na=run a; if true; then run a; fi\n", [], [of_if("a:1:11")]),
+    (b"a=run b; true\nb=if true; then true; fi\nc=run b || true\n", [b"a"], []),
+    (b"a=run b; true\nb=if true; then true; fi\nc=run b || true\n", [b"a", b"c"], [of_if("b:1:4")]),
+    (b"bootcmd=run a && true\na=run b\nb='\n", [], [no_script("b:1:1", "Quote")]),
+    (b"bootcmd=true\nbootmenu_0=a=run a || true\na=if true; then true; fi\n", [], [of_if("a:1:4")]),
 ]  # fmt: skip
 # The same for substitutions: any script that is checked may give a name to something
 GIVEN = [
     (b"bootcmd=echo $n; run b\nb=setenv n 1\n", [], []),
     (b"bootcmd=run b; echo $n\nb=for n in 1; do true; done\n", [], []),
     (b"bootcmd=echo $n\npreboot=n=1\n", [], []),
-    (b"bootcmd=run b_$?; echo $n\nb_1=setenv n 1\n", [], []),
+    (b"bootcmd=run b_$?; echo $n\nb_1=setenv n 1\n", [], [stale("bootcmd:1:1")]),
     (b"bootcmd=run b\nb=run c; echo $n\nc=test -n $n\n", [], []),
     (b"bootcmd=echo $n\nb=n=1\n", [], [not_defined("bootcmd:1:6", "n")]),
     (b"bootcmd=echo $n; env run b\nb=n=1\n", [], [not_defined("bootcmd:1:6", "n")]),
@@ -94,7 +111,7 @@ FORESEEN = [
     (b"bootcmd=if test -n ${uenvcmd}; then run uenvcmb; fi\n", [], [not_run("bootcmd:1:33", "uenvcmb")]),
     (b"bootcmd=run b; run n\nb=setenv n 1\n", [], []),
     (b"bootcmd=run n b\nb=run c\nc=test -n $n\n", [], []),
-    (b"bootcmd=run n b_$?\nb_1=setenv n 1\n", [], []),
+    (b"bootcmd=run n b_$?\nb_1=setenv n 1\n", [], [stale("bootcmd:1:1")]),
     (b"bootcmd=run n\npreboot=setexpr n 1 + 1\n", [], []),
     (b"bootcmd=run n\nb=setenv n 1\n", [], [not_run("bootcmd:1:5", "n")]),
     (b"bootcmd=run n\nb=setenv n 1\n", [b"bootcmd", b"b"], []),
@@ -148,12 +165,13 @@ MENUS = [
 # What is printed of arguments of `check` that are wrong, and such arguments; nothing is read
 WRONG = {
     FILE_AND: (
-        "-f script --shell x a / -f script a / -f a -f script a / a -f - / -f script '' / -c absent -f script / -f script --default absent / -f=script --env=absent / "
-        "-f script --size x / -f script --size 4000 --env absent -c absent a / -f script --known absent"
+        "-f script --shell x a / -f script a / -f a -f script a / a -f - / -f script '' / -f script --default absent / -f script --size x / "
+        "-f script --known absent"
     ),
-    AND_ENV % b"-c <FILE>": "--env absent -c absent / --default=absent --size=x --env absent -c=absent",
-    AND_ENV % b"--default <FILE>": "a --default=absent --env absent",
-    SIZE_ALONE: "--size 4000 / --size x -c absent a",
+    AND_ENV
+    % b"-c <FILE>": "--env absent -c absent / --default=absent --size=x --env absent -c=absent / -f script --size 4000 --env absent -c absent a",
+    AND_ENV % b"--default <FILE>": "a --default=absent --env absent / -f script --default=absent --env absent",
+    SIZE_ALONE: "--size 4000 / --size x -c absent a / --size x -c absent -f absent",
     NO_SIZE % b"x": "--env absent --size=x a / --env absent --size=x --shell=x",
     NO_SHELL % b"x": "--shell x / --shell x --ignore y --format z / --shell=x -f absent / -c absent --shell=x a",
     NO_CODE % b"x": "--ignore x / --format y --ignore x / --ignore=syntax --ignore x / -f absent --ignore=x --strict / -c absent --ignore=x a",
@@ -184,6 +202,10 @@ ORDER = [
     ([b"-f="], b""),
     ([b"-f", b"stand-ins", b"-f", b"no", b"-f", b"none"], b"no"),
     ([b"-f", b"none", b"-f", b"stand-ins"], b"none"),
+    ([b"-f", b"no", b"--env", b"none"], b"none"),
+    ([b"-f", b"no", b"-c", b"absent"], b"absent"),
+    ([b"-f", b"no", b"--env", b"stand-ins", b"--known", b"none"], b"none"),
+    ([b"-f", b"stand-ins", b"-f", b"no", b"--env", b"stand-ins"], b"no"),
 ]
 
 
@@ -395,6 +417,53 @@ def several():
     yield row("no finding", [b"-f", b"a", b"-f", b"b"], {b"a": b"", b"b": b"true"}, b"", scripts=2)
 
 
+# An environment, and the scripts of files over it: the words of a call, the files, the findings and how many scripts there are
+OVER = b"root=mmc\nload=nand $addr; setenv loaded 1\nbootcmd=run n\nother=run m load\ntested=true\n.flags=root:d\nbootmenu_0=a=run o\n"
+LOADED = not_defined("load:1:6", "addr")
+OVER_FILES = [
+    (b"boot", {b"boot": b"echo $root $gone; root=2; run load lost; echo $loaded\n"},
+     [f"boot:{each}" for each in (not_defined("1:12", "gone"), hidden("1:19", "root"), not_run("1:36", "lost"))] + [LOADED], 2),
+    (b"boot", {b"boot": b"echo $n\n"}, ["boot:" + not_defined("1:6", "n")], 1),
+    (b"boot", {b"boot": b"true"}, [], 1),
+    (b"boot", {b"boot": b"run load; break"}, ["boot:" + lacked("1:11", "break"), LOADED], 2),
+    (b"boot", {b"boot": b"run load '"}, ["boot:" + no_script("1:10", "Quote")], 1),
+    (b"boot other", {b"boot": b"run load"}, [not_run("other:1:5", "m"), LOADED], 3),
+    (b"boot other none", {b"boot": b"break"}, [no_variable("none"), "boot:" + lacked("1:1", "break"), not_run("other:1:5", "m"), LOADED], 3),
+    (b"-- two one", {b"one": b"setenv x 1; run later", b"two": b"echo $x $y; setenv later true"}, ["two:" + not_defined("1:9", "y")], 2),
+    (b"-- one two", {b"one": b"break; run t$root", b"two": b"continue"}, ["one:" + lacked("1:1", "break"), "one:" + not_run("1:12", "tmmc"), "two:" + lacked("1:1", "continue")], 3),
+    (b"-- one one", {b"one": b"run none"}, ["one:" + not_run("1:5", "none")] * 2, 2),
+    (b"boot", {b"boot": b"test -n ${m} && run m; run $root"}, ["boot:" + not_run("1:28", "mmc")], 1),
+    (b"boot", {b"boot": b"run ${x}"}, ["boot:" + any_target("1:5"), "boot:" + not_defined("1:5", "x")], 1),
+]  # fmt: skip
+
+
+def over_environment():
+    """Scripts of files over an environment, whose variables are known: what they run of it is looked at, and what is named."""
+    for words, files, found, scripts in OVER_FILES:
+        first, *rest = words.split()
+        paths = rest if first == b"--" else [first]
+        given = [word for path in paths for word in (b"-f", path)] + (rest if first != b"--" else [])
+        yield row("files over an environment", [b"--env", b"env", *given], files | {b"env": OVER}, lines(found), scripts=scripts)
+    single = Geometry(1, 64)
+    copies = board(single, [single.image(0, b"a=run n\0")]) | {b"s": b"run a; echo $a $b"}
+    yield row(
+        "a file over copies", arguments(b"check", b"-f", b"s")[1:], copies, lines(["s:" + not_defined("1:16", "b"), not_run("a:1:5", "n")]), scripts=2
+    )
+    files = {b"env": b"a=1\n", b"s": b"echo $a $b $c\n", b"names": b"b\n", b"board": b"mmc -> run a\n"}
+    yield row("a file and known names", [b"--env=env", b"-fs", b"--known", b"names"], files, lines(["s:" + not_defined("1:12", "c")]), scripts=1)
+    found = [*(f"s:{each}" for each in (not_defined("1:9", "b"), not_defined("1:12", "c"))), not_called("a:1:1", "1")]
+    yield row("a file and a board", [b"--env=env", b"-fs", b"--board", b"board"], files, lines(found), scripts=2)
+    yield row("a file of standard input", [b"--env", b"env", b"-f", b"-"], files, lines(["-:" + not_run("1:5", "n")]), given=b"run n", scripts=1)
+    yield row(
+        "an environment of standard input",
+        [b"--env", b"-", b"-f", b"s"],
+        files,
+        lines(["s:" + not_defined("1:12", "c")]),
+        given=b"a=1\nb=1\n",
+        scripts=1,
+    )
+
+
 def opened():
     """Over copies, and without a good one."""
     single = Geometry(1, 64)
@@ -458,4 +527,4 @@ def words():
 
 
 def chunks():
-    return [*check_kinds.chunks(), followed, known, limits, counting, formats, several, opened, words]
+    return [*check_kinds.chunks(), followed, known, limits, counting, formats, several, over_environment, opened, words]

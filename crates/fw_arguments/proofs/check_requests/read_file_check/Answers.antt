@@ -3,6 +3,6 @@ use Rattle.clap.specs.Words.{found_of, rows_of}
 use Rattle.fw_arguments.proofs.CallLemmas.{refused_file}
 use Rattle.fw_arguments.proofs.check_requests.read_file_check.Goals as goal
 
-pub returns-then-names_environment : goal.returns-then-names_environment
-returns-then-names_environment c =
-    refused_file (rows_of (found_of c.args.found.now)) (map (λ p. p.now) c.args.paths.now) _ c.of.ensures (sym c.names_environment.ensures ∙ c.if-names_environment.true)
+pub returns-then-needs_environment : goal.returns-then-needs_environment
+returns-then-needs_environment c =
+    refused_file (rows_of (found_of c.args.found.now)) (map (λ p. p.now) c.args.paths.now) _ c.of.ensures (sym c.needs_environment.ensures ∙ c.if-needs_environment.true)

@@ -1,4 +1,4 @@
-use Rattle.std.proofs.Common.{◌+◌, ◌∷◌, ap, drop, subst, sym, ◌∙◌}
+use Rattle.std.proofs.Common.{false, ◌+◌, ◌∷◌, ap, drop, subst, sym, ◌∙◌}
 use Rattle.std.proofs.lemmas.List.{drop_more}
 use Rattle.fw_check.specs.FileChecks.{ReportsFiles, scripts_view}
 use Rattle.fw_check.specs.Lines.{File}
@@ -16,6 +16,6 @@ loop-script-preserved c =
     let before = c.loop-script.so_far in
     let after = c.in_ok-so_far.so_far in
     let cut = drop_more scripts i x c.loop-script-test.true ∙ ap (λ v. v ∷ drop (i + 1) scripts) (sym c.script-item.is) in
-    let checked = subst (λ t. GoesOn known given (File x.path.now) t before after) c.deref.ensures.value c.in_ok-so_far.ensures in
+    let checked = subst (λ t. GoesOn known given (File x.path.now) false t before after) c.deref.ensures.value c.in_ok-so_far.ensures in
     λ final rest. c.loop-script.invariant final
     (subst (λ ss. ReportsFiles known given (scripts_view ss) before final) (sym cut) (after, checked, rest))

@@ -1,6 +1,7 @@
-use Rattle.std.proofs.Common.{[], ◌∷◌, map, refl}
+use Rattle.std.proofs.Common.{true, [], ◌∷◌, refl, ap, ◌∙◌}
 use Rattle.hush_syntax.specs.Scripts.{subtree_at}
-use Rattle.fw_check.specs.Gathering.{if_parts}
+use Rattle.fw_check.specs.Gathering.{if_parts, link_parts, list_parts, operator_of, part}
+use Rattle.fw_check.specs.Settings.{in_loop, in_turn, plain}
 use Rattle.fw_check.proofs.GatherLemmas.{gather-nodes, list-parts, chain-parts, branches-parts, while-parts, until-parts, for-parts, gather-one}
 use Rattle.fw_check.specs.declared.items.Item.TheVariants as item
 use Rattle.fw_check.proofs.items.gather.Goals as goal
@@ -8,42 +9,52 @@ use Rattle.fw_check.proofs.items.gather.Goals as goal
 pub returns-in-List : goal.returns-in-List
 returns-in-List c =
     let s = c.args.script.now in
+    let p = c.args.part in
     let h = rw c.in-List.is at c.node.ensures in
-    gather-nodes c.push_all.result s.text (subtree_at s) c.args.id c.in-List.chains.now c.args.waiting.now c.push_all.new.self c.args.items.now.items
-    (list-parts (subtree_at s) s.text c.args.id c.in-List.chains.now h.0 h.1 h.2) c.push_all.ensures
+    gather-nodes c.push_list.result s.text c.args.shows (subtree_at s) p (list_parts c.args.shows p.setting true c.in-List.chains.now) c.args.waiting.now c.push_list.new.self c.args.items.now.items
+    (list-parts c.args.shows (subtree_at s) s.text p c.in-List.chains.now h.0 h.1 h.2) c.push_list.ensures
 
 pub returns-in-Chain : goal.returns-in-Chain
 returns-in-Chain c =
     let s = c.args.script.now in
+    let p = c.args.part in
+    let links = c.in-Chain.links.now in
     let h = rw c.in-Chain.is at c.node.ensures in
-    gather-nodes c.push_links.result s.text (subtree_at s) c.args.id (map (λ l. l.command) c.in-Chain.links.now) c.args.waiting.now c.push_links.new.self c.args.items.now.items
-    (chain-parts (subtree_at s) s.text c.args.id c.in-Chain.links.now h.0 h.1 h.2) c.push_links.ensures
+    gather-nodes c.push_links.result s.text c.args.shows (subtree_at s) p (link_parts p.setting (operator_of links) true links) c.args.waiting.now c.push_links.new.self c.args.items.now.items
+    (chain-parts c.args.shows (subtree_at s) s.text p links h.0 h.1 h.2) c.push_links.ensures
 
 pub returns-in-If : goal.returns-in-If
 returns-in-If c =
     let s = c.args.script.now in
+    let p = c.args.part in
     let h = rw c.in-If.is at c.node.ensures in
-    gather-nodes c.push_if.result s.text (subtree_at s) c.args.id (if_parts c.in-If.branches.now c.in-If.otherwise) c.args.waiting.now c.push_if.new.waiting c.args.items.now.items
-    (branches-parts (subtree_at s) s.text c.args.id c.in-If.branches.now c.in-If.otherwise h.0 h.1 h.2 h.3 h.4) c.push_if.ensures
+    gather-nodes c.push_if.result s.text c.args.shows (subtree_at s) p (if_parts p.setting true c.in-If.branches.now c.in-If.otherwise) c.args.waiting.now c.push_if.new.waiting c.args.items.now.items
+    (branches-parts c.args.shows (subtree_at s) s.text p c.in-If.branches.now c.in-If.otherwise h.0 h.1 h.2 h.3 h.4) c.push_if.ensures
 
 pub returns-in-While : goal.returns-in-While
 returns-in-While c =
     let s = c.args.script.now in
+    let p = c.args.part in
     let h = rw c.in-While.is at c.node.ensures in
-    gather-nodes c.push_loop.result s.text (subtree_at s) c.args.id (c.in-While.condition ∷ c.in-While.body ∷ []) c.args.waiting.now c.push_loop.new.waiting c.args.items.now.items
-    (while-parts (subtree_at s) s.text c.args.id c.in-While.condition c.in-While.body h.0 h.1 h.2 h.3 h.4) c.push_loop.ensures
+    let parts = part c.in-While.condition (in_loop p.setting) ∷ part c.in-While.body (plain c.args.shows) ∷ [] in
+    gather-nodes c.push_loop.result s.text c.args.shows (subtree_at s) p parts c.args.waiting.now c.push_loop.new.waiting c.args.items.now.items
+    (while-parts c.args.shows (subtree_at s) s.text p c.in-While.condition c.in-While.body h.0 h.1 h.2 h.3 h.4) c.push_loop.ensures
 
 pub returns-in-Until : goal.returns-in-Until
 returns-in-Until c =
     let s = c.args.script.now in
+    let p = c.args.part in
     let h = rw c.in-Until.is at c.node.ensures in
-    gather-nodes c.push_loop-in-Until.result s.text (subtree_at s) c.args.id (c.in-Until.condition ∷ c.in-Until.body ∷ []) c.args.waiting.now c.push_loop-in-Until.new.waiting c.args.items.now.items
-    (until-parts (subtree_at s) s.text c.args.id c.in-Until.condition c.in-Until.body h.0 h.1 h.2 h.3 h.4) c.push_loop-in-Until.ensures
+    let parts = part c.in-Until.condition (in_loop p.setting) ∷ part c.in-Until.body (plain c.args.shows) ∷ [] in
+    gather-nodes c.push_loop-in-Until.result s.text c.args.shows (subtree_at s) p parts c.args.waiting.now c.push_loop-in-Until.new.waiting c.args.items.now.items
+    (until-parts c.args.shows (subtree_at s) s.text p c.in-Until.condition c.in-Until.body h.0 h.1 h.2 h.3 h.4) c.push_loop-in-Until.ensures
 
 pub returns-in_ok-push-in-For : goal.returns-in_ok-push-in-For
 returns-in_ok-push-in-For c =
     let s = c.args.script.now in
+    let p = c.args.part in
     let h = rw c.in-For.is at c.node.ensures in
-    let it = item.Binding c.in-For.name c.in-For.words in
-    gather-one c.push_item.result s.text (subtree_at s) c.args.id it (c.in-For.body ∷ []) c.args.waiting.now c.push.new.self c.args.items.now.items c.push_item.new.items.items
-    (for-parts (subtree_at s) s.text c.args.id c.in-For.body it _ _ h.0 h.1 h.2 refl) c.in_ok-push-in-For.ensures c.push_item.ensures
+    let it = item.Binding p.setting c.in-For.name c.in-For.words in
+    gather-one c.push_item.result s.text c.args.shows (subtree_at s) p it (part c.in-For.body (in_turn c.args.shows p.setting) ∷ []) c.args.waiting.now c.push.new.self c.args.items.now.items c.push_item.new.items.items
+    (for-parts c.args.shows (subtree_at s) s.text p c.in-For.body it _ _ h.0 h.1 h.2 refl)
+    (c.in_ok-push-in-For.ensures ∙ ap (λ st. part c.in-For.body st ∷ c.args.waiting.now) c.in_turn.ensures) c.push_item.ensures

@@ -12,11 +12,11 @@ check_parsed-requires c = subst (λ b. SpellsIn b (tree_of c.in-Ok.script) (sour
 pub returns-in-Ok : goal.returns-in-Ok
 returns-in-Ok c =
     let l = c.args.lookups.now in
-    read-script (known_in l) (rules_in l) c.check_parsed.result (source_of c.in-Ok.script) c.args.text.now c.args.found.now c.check_parsed.new.found
+    read-script (known_in l) (rules_in l) c.args.asked c.check_parsed.result (source_of c.in-Ok.script) c.args.text.now c.args.found.now c.check_parsed.new.found
     (c.in-Ok.ensures.kept ∙ c.in_ok-source.ensures.items) c.check_parsed.ensures
 
 pub returns-in-Err : goal.returns-in-Err
 returns-in-Err c =
     let l = c.args.lookups.now in
-    read-fault (known_in l) (rules_in l) c.add_fault.result c.in_ok-source.source.items c.args.text.now c.in-Err.fault c.args.found.now c.add_fault.new.found
+    read-fault (known_in l) (rules_in l) c.args.asked c.add_fault.result c.in_ok-source.source.items c.args.text.now c.in-Err.fault c.args.found.now c.add_fault.new.found
     c.in_ok-source.ensures.items (λ z. subst (λ b. read_in b c.in_ok-source.source.items ≡ None) c.bodies_of.ensures (c.in-Err.ensures.unread z)) c.in-Err.ensures.fits c.add_fault.ensures

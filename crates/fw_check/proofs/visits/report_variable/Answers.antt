@@ -7,5 +7,5 @@ use Rattle.fw_check.proofs.visits.report_variable.Goals as goal
 
 pub returns : goal.returns
 returns c =
-    subst (λ t. IfOk c.check_script.result (λ after. GoesOn (known_in c.args.lookups.now) (rules_in c.args.lookups.now) (Variable c.args.name.now) t c.args.report after))
+    subst (λ t. IfOk c.check_script.result (λ after. GoesOn (known_in c.args.lookups.now) (rules_in c.args.lookups.now) (Variable c.args.name.now) c.args.asked t c.args.report after))
     (c.deref.ensures.value ∙ c.in_ok-text.ensures) c.check_script.ensures

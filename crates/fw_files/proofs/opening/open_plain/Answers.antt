@@ -16,8 +16,8 @@ returns-in-First g c =
     let none = c.empty-none.result in
     let opens = of_value (λ (s : Held). s ≡ opened source.geometry source.first.bytes.items (second_bytes source.second) none) c.start-opened.result session c.in_ok-session.ensures.value c.start-opened.ensures in
     let is = c.empty-none.ensures ∙ ap (λ room. let v : Contents = record { env = env.empty; room = room } in v) c.room.ensures.value in
-    subst (IsOpened source (defaults_view c.args.asked.now) c.args.spares session (g.E.Write.contents c.args.errors.now)) (sym c.in_ok-session.ensures.said)
-    (first_stays source (defaults_view c.args.asked.now) c.args.spares session none _ c.requires is opens (sym c.current.ensures ∙ c.in-First.is))
+    subst (IsOpened (g.X.System.holds c.args.rt.now) source (defaults_view c.args.asked.now) c.args.spares session (g.E.Write.contents c.args.errors.now)) (sym c.in_ok-session.ensures.said)
+    (first_stays _ source (defaults_view c.args.asked.now) c.args.spares session none _ c.requires is opens (sym c.current.ensures ∙ c.in-First.is))
 
 pub returns-in-Second : goal.returns-in-Second
 returns-in-Second g c =
@@ -26,8 +26,8 @@ returns-in-Second g c =
     let none = c.empty-none.result in
     let opens = of_value (λ (s : Held). s ≡ opened source.geometry source.first.bytes.items (second_bytes source.second) none) c.start-opened.result session c.in_ok-session.ensures.value c.start-opened.ensures in
     let is = c.empty-none.ensures ∙ ap (λ room. let v : Contents = record { env = env.empty; room = room } in v) c.room.ensures.value in
-    subst (IsOpened source (defaults_view c.args.asked.now) c.args.spares session (g.E.Write.contents c.args.errors.now)) (sym c.in_ok-session.ensures.said)
-    (second_stays source (defaults_view c.args.asked.now) c.args.spares session none _ c.requires is opens (sym c.current.ensures ∙ c.in-Second.is))
+    subst (IsOpened (g.X.System.holds c.args.rt.now) source (defaults_view c.args.asked.now) c.args.spares session (g.E.Write.contents c.args.errors.now)) (sym c.in_ok-session.ensures.said)
+    (second_stays _ source (defaults_view c.args.asked.now) c.args.spares session none _ c.requires is opens (sym c.current.ensures ∙ c.in-Second.is))
 
 pub returns-in-Neither : goal.returns-in-Neither
 returns-in-Neither g c =
@@ -35,6 +35,6 @@ returns-in-Neither g c =
     let session = c.in_ok-session.session in
     let none = c.empty-none.result in
     let opens = of_value (λ (s : Held). s ≡ opened source.geometry source.first.bytes.items (second_bytes source.second) none) c.start-opened.result session c.in_ok-session.ensures.value c.start-opened.ensures in
-    said_same c.open_with.result source (defaults_view c.args.asked.now) c.args.spares _ _ _ c.in_ok-session.ensures.said
-    (taken_then c.open_with.result source (defaults_view c.args.asked.now) (defaults_view c.found_defaults-found.result) c.args.spares session none _ _ opens (sym c.current.ensures ∙ c.in-Neither.is)
+    said_same _ c.open_with.result source (defaults_view c.args.asked.now) c.args.spares _ _ _ c.in_ok-session.ensures.said
+    (taken_then _ c.open_with.result source (defaults_view c.args.asked.now) (defaults_view c.found_defaults-found.result) c.args.spares session none _ _ opens (sym c.current.ensures ∙ c.in-Neither.is)
     c.found_defaults-found.ensures c.open_with.ensures)

@@ -6,5 +6,5 @@ use Rattle.fw_files.proofs.opening.session_over.Goals as goal
 
 pub returns : goal.returns
 returns g c =
-    let given = subst (λ (room : ℕ). AreDefaultsOf room (defaults_view c.args.asked.now) c.in_ok-given.given) c.room.ensures.value c.in_ok-given.ensures in
+    let given = subst (λ (room : ℕ). AreDefaultsOf (g.X.System.holds c.args.rt.now) room (defaults_view c.args.asked.now) c.in_ok-given.given) c.room.ensures.value c.in_ok-given.ensures in
     IfOk-weaker c.start.result _ _ (λ s is. (_, given, is)) c.start.ensures

@@ -1,11 +1,10 @@
 use Rattle.std.proofs.Common.{List, inr, subst, map, ◌∙◌}
-use Rattle.std.proofs.lemmas.List.{length-map}
 use Rattle.hush_syntax.specs.Scripts.{tree_of}
 use Rattle.hush_syntax.specs.declared.script.Script.{Script}
 use Rattle.fw_files.specs.Said.{Says}
 use Rattle.hush_commands.specs.Hardware.{hardware}
 use Rattle.fw_arguments.specs.PowerOns.{power_ons_view}
-use Rattle.fw_tools.specs.PowerOns.{PrintsBoots}
+use Rattle.fw_tools.specs.PowerOns.{AreScriptsOf, PrintsBoots}
 use Rattle.fw_tools.proofs.boot_work.boot_given.Goals as goal
 
 pub returns : goal.returns
@@ -19,7 +18,7 @@ returns g c =
       given,
       map tree_of c.in_ok-after.after.items,
       c.in_ok-hardware.ensures.0,
-      length-map c.in_ok-after.after.items tree_of ∙ c.in_ok-after.ensures.0,
+      subst (λ b. AreScriptsOf (g.X.System.holds c.args.rt.now) b (power_ons_view c.args.asked.now).after (map tree_of c.in_ok-after.after.items)) c.bodies_of.ensures c.in_ok-after.ensures.0,
       (
         c.print_boots-end.result,
         printed,

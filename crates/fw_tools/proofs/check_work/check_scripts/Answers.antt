@@ -9,6 +9,6 @@ pub returns : goal.returns
 returns g c =
     let before = c.in_ok-given.ensures in
     let scripts = c.in_ok-scripts.ensures in
-    file-checks-over (file_check_view c.args.asked.now) _ _ _ _ _ _ _ (scripts_view c.in_ok-scripts.scripts.items) c.check_files-end.result _ before.0 scripts.0 c.check_files-end.ensures
+    file-checks-over (g.X.System.holds c.args.rt.now) (file_check_view c.args.asked.now) _ _ _ _ _ _ _ (scripts_view c.in_ok-scripts.scripts.items) c.check_files-end.result _ before.0 scripts.0 c.check_files-end.ensures
     (ap (λ e. let w : Writers = record { output = g.W.Write.contents c.args.output.now; errors = e } in w) (scripts.1 ∙ before.1))
     c.rules_with.ensures (ap scripts_view c.deref.ensures.value) c.leave.ensures.status c.leave.ensures.said

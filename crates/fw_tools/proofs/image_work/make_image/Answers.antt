@@ -1,7 +1,7 @@
 use Rattle.std.proofs.Common.{ap, inl, refl, subst, ◌∙◌, ℕ}
 use Rattle.std.specs.Prelude.{unwrap_or}
 use Rattle.fw_arguments.specs.ImageRequests.{image_request_view}
-use Rattle.fw_files.specs.Source.{AreDefaultsFrom}
+use Rattle.fw_files.specs.Source.{AreDefaultsAt}
 use Rattle.fw_files.proofs.SaidLemmas.{nothing_said, said_then}
 use Rattle.fw_tools.proofs.NewImageLemmas.{made_image}
 use Rattle.fw_tools.proofs.image_work.make_image.Goals as goal
@@ -18,6 +18,6 @@ returns-in_err-image g c =
 
 pub returns : goal.returns
 returns g c =
-    let are = subst (λ (room : ℕ). AreDefaultsFrom (image_request_view c.args.asked.now).text.form room c.in_ok-vars.vars) c.room.ensures.value c.in_ok-vars.ensures.0 in
-    made_image (image_request_view c.args.asked.now) _ _ _ c.in_ok-geometry.geometry c.in_ok-vars.vars _ _ c.in_ok-geometry.ensures.1 are
+    let are = subst (λ (room : ℕ). AreDefaultsAt (g.X.System.holds c.args.rt.now) (image_request_view c.args.asked.now).text.path (image_request_view c.args.asked.now).text.form room c.in_ok-vars.vars) c.room.ensures.value c.in_ok-vars.ensures.0 in
+    made_image (g.X.System.holds c.args.rt.now) (g.X.System.wrote c.args.rt.now) (image_request_view c.args.asked.now) _ _ _ c.in_ok-geometry.geometry c.in_ok-vars.vars _ _ c.in_ok-geometry.ensures.1 are
     (c.deref.ensures.value ∙ c.in_ok-image.ensures.0) (c.in_ok-image.ensures.1 ∙ c.in_ok-vars.ensures.1) c.put_out.ensures

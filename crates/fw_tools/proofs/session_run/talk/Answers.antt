@@ -11,5 +11,5 @@ returns-in_err-given g c = inl (refl, ((refl, c.in_err-given.ensures), ap (λ o.
 pub returns : goal.returns
 returns g c =
     let given = hardware c.in_ok-given.given.board c.in_ok-given.given.stand_ins in
-    tried_over (dry_run_view c.args.run.now) c.args.source.now c.args.opened _ _ given _ _ _ c.in_ok-given.ensures.0 c.in_ok-given.ensures.1
+    tried_over (g.X.System.holds c.args.rt.now) (dry_run_view c.args.run.now) c.args.source.now c.args.opened _ _ given _ _ _ c.in_ok-given.ensures.0 c.in_ok-given.ensures.1
     (c.answer-end.result.ending, c.answer-end.result.read, c.answer-end.result.written, _, c.answer-end.ensures.1, c.leave.ensures)

@@ -8,6 +8,6 @@ returns-in_err-source-clause-found g c =
 
 pub returns-clause-found : goal.returns-clause-found
 returns-clause-found g c = (
-  wanted_so _ _ _ c.in_ok-read.read c.in_ok-source.source c.in_ok-read.ensures.found.0 c.in_ok-source.ensures.0,
+  wanted_so (g.X.System.holds c.args.rt.now) c.args.call.now.config.now c.args.call.now.image c.args.call.now.order c.args.call.now.copy c.in_ok-read.read c.in_ok-source.source c.in_ok-read.ensures.found.0 c.in_ok-source.ensures.0,
   waited_to _ _ _ c.in_ok-read.ensures.found.1 c.in_ok-source.ensures.1,
 )

@@ -20,5 +20,5 @@ returns g c =
     let session = c.in_ok-session.session in
     let opened = c.in_ok-session.ensures in
     let spared = subst (λ s. Spares session.now.current s source.geometry source.first.bytes.items (second_bytes source.second)) c.spares.ensures opened.2.spared in
-    let opening : IsOpening call.image call.order call.copy (spares call) opened.0 source session = (c.in_ok-source.ensures.found.0, opened.2.opens, spared) in
-    opened_session call opened.0 _ _ _ source session _ _ _ c.in_ok-source.ensures.found.1 opened.1 opening opened.2.accepted c.work.ensures
+    let opening : IsOpening (g.X.System.holds c.args.rt.now) call.config call.image call.order call.copy (spares call) opened.0 source session = (c.in_ok-source.ensures.found.0, opened.2.opens, spared) in
+    opened_session (g.X.System.holds c.args.rt.now) call opened.0 _ _ _ source session _ _ _ c.in_ok-source.ensures.found.1 opened.1 opening opened.2.accepted c.work.ensures

@@ -10,13 +10,13 @@ returns-in_err-end g c = inl ((c.in_err-end.ensures, ap (λ o. unwrap_or o 1) c.
 pub returns-then-is_left : goal.returns-then-is_left
 returns-then-is_left g c =
     let task = task_view c.args.task in
-    used_tool c.args.only_changes false task c.args.source.now c.args.opened _ _ _ c.in_ok-end.end _ _ c.in_ok-end.ensures
+    used_tool (g.X.System.holds c.args.rt.now) c.args.only_changes false task c.args.source.now c.args.opened _ _ _ c.in_ok-end.end _ _ c.in_ok-end.ensures
     (sym (kept_if c.is_left.result c.args.only_changes _ _ _ true task c.args.opened c.act.new.session c.is_left.ensures c.changes.ensures c.current-current.ensures c.touched-touched.ensures c.if-is_left.true))
     (c.report.ensures.said, c.report.ensures.status, refl)
 
 pub returns : goal.returns
 returns g c =
     let task = task_view c.args.task in
-    used_tool c.args.only_changes true task c.args.source.now c.args.opened _ _ _ c.in_ok-end.end _ _ c.in_ok-end.ensures
+    used_tool (g.X.System.holds c.args.rt.now) c.args.only_changes true task c.args.source.now c.args.opened _ _ _ c.in_ok-end.end _ _ c.in_ok-end.ensures
     (sym (kept_if c.is_left.result c.args.only_changes _ _ _ false task c.args.opened c.act.new.session c.is_left.ensures c.changes.ensures c.current-current.ensures c.touched-touched.ensures c.if-is_left.false))
     c.finish.ensures

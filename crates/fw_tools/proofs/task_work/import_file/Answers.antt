@@ -13,4 +13,4 @@ returns g c =
     (named_import_effect session (map entry_view es)) (LacksMemoryToName session (map pair_of (map entry_view es))) c.import_named.result in
     let entries = c.in_ok-entries.entries.items in
     let old = subst (λ e. of e c.deref.result.now) has.1 c.import_named.ensures in
-    (has.0.0, map entry_view entries, has.0.1, subst (of (g.E.Write.contents c.args.errors.now)) c.deref.ensures.value old)
+    (map entry_view entries, has.0, subst (of (g.E.Write.contents c.args.errors.now)) c.deref.ensures.value old)

@@ -14,4 +14,4 @@ returns g c =
     (restore_effect session (map entry_view es)) (LacksMemoryToRestore session (map entry_view es)) c.restore.result in
     let entries = c.in_ok-entries.entries.items in
     let old = subst (λ e. of e c.deref.result.now) has.1 c.restore.ensures in
-    (has.0.0, map entry_view entries, has.0.1, subst (of (g.E.Write.contents c.args.errors.now)) c.deref.ensures.value old)
+    (map entry_view entries, has.0, subst (of (g.E.Write.contents c.args.errors.now)) c.deref.ensures.value old)

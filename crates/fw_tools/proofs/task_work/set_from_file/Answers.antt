@@ -16,4 +16,4 @@ returns g c =
     let entries = c.in_ok-entries.entries.items in
     let first = subst (λ e. of e (map entry_in c.deref.result.now)) has.1 c.set_script.ensures in
     let old = subst (of (g.E.Write.contents c.args.errors.now)) (sym (pairs_in c.deref.result.now)) first in
-    (has.0.0, map entry_view entries, has.0.1, subst (λ es. of (g.E.Write.contents c.args.errors.now) (map pair_of (map entry_view es))) c.deref.ensures.value old)
+    (map entry_view entries, has.0, subst (λ es. of (g.E.Write.contents c.args.errors.now) (map pair_of (map entry_view es))) c.deref.ensures.value old)

@@ -3,7 +3,7 @@ use Rattle.fw_check.specs.Commands.{command_sentence, kind_of}
 use Rattle.fw_check.specs.Findings.{found_at}
 use Rattle.fw_check.specs.Found.{found_more}
 use Rattle.fw_check.proofs.FoundLemmas.{ok-then}
-use Rattle.fw_check.proofs.statements.add_command.Goals as goal
+use Rattle.fw_check.proofs.command_names.add_command.Goals as goal
 
 pub returns-in-Function : goal.returns-in-Function
 returns-in-Function c =

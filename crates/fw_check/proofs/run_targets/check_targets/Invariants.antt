@@ -3,7 +3,7 @@ use Rattle.std.specs.List.{flat_map}
 use Rattle.fw_check.specs.Findings.{argument_findings}
 use Rattle.fw_check.specs.Found.{found_more}
 use Rattle.fw_check.specs.Looking.{known_in}
-use Rattle.fw_check.proofs.statements.check_targets.Given as goal
+use Rattle.fw_check.proofs.run_targets.check_targets.Given as goal
 
 abbrev pub invariant-loop-word : goal.invariant-loop-word
 invariant-loop-word l =

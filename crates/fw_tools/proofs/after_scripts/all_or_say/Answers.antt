@@ -1,0 +1,28 @@
+use Rattle.std.proofs.Common.{arith, map, subst, sym, take, ◌∙◌}
+use Rattle.std.proofs.lemmas.List.{map_more, take_all}
+use Rattle.hush_syntax.specs.Scripts.{tree_of}
+use Rattle.fw_files.specs.Said.{SaysSome}
+use Rattle.fw_files.proofs.SaidLemmas.{none_said}
+use Rattle.fw_tools.specs.PowerOns.{AreScriptsOf}
+use Rattle.fw_tools.proofs.PowerOnLemmas.{script_added}
+use Rattle.fw_tools.proofs.after_scripts.all_or_say.Goals as goal
+
+pub loop-path-preserved : goal.loop-path-preserved
+loop-path-preserved g c =
+    let holds = g.X.System.holds c.args.rt.now in
+    let new = map tree_of c.push_or_say.new.scripts.items in
+    let before = c.loop-path.invariant in
+    let added = c.in_ok-push_or_say.ensures in
+    let all = script_added holds c.args.bodies (map (λ p. p.now) (take c.loop-path.path-index c.args.paths.now)) _ _ new before.0 added.0 in
+    (subst (λ ps. AreScriptsOf holds c.args.bodies ps new) (sym (map_more (λ p. p.now) c.args.paths.now c.loop-path.path-index _ c.loop-path-test.true)) all, added.1 ∙ before.1)
+
+pub returns-in_err-push_or_say : goal.returns-in_err-push_or_say
+returns-in_err-push_or_say g c =
+    none_said c.from_residual.result _ _ _ c.from_residual.ensures
+    (subst (λ e. SaysSome e (g.E.Write.contents c.push_or_say.new.errors)) c.loop-path.invariant.1 c.in_err-push_or_say.ensures)
+
+pub returns : goal.returns
+returns g c =
+    let paths = c.args.paths.now in
+    let whole = take_all c.loop-path.path-index paths (omega (arith, c.loop-path-test.false)) in
+    (subst (λ ps. AreScriptsOf (g.X.System.holds c.args.rt.now) c.args.bodies (map (λ p. p.now) ps) (map tree_of c.loop-path.scripts.items)) whole c.loop-path.invariant.0, c.loop-path.invariant.1)
