@@ -46,12 +46,13 @@ def main():
     wanted = {
         "README.md": f"{sum(without.values())} of some {rounded}",
         "docs/promises.md": f"{sum(without.values())} of some {rounded} functions, {open_to_all}: {files} of fw_files and fw_tools, "
-        f"around opening, locking, reading and writing files, {without['device_files']} of device_files, which make one call of a file each, "
-        f"{without['hush_run']} of hush_run, which choose what a trace notes, and the {without['fwenv']} of `fwenv`'s",
+        f"around opening, locking, reading and writing files and showing how far a search has come, {without['device_files']} of device_files, "
+        f"which make one call of a file each, {without['hush_run']} of hush_run, which choose what a trace notes, the {without['fw_boots']} of "
+        f"fw_boots that are told how far a search has come, and the {without['fwenv']} of `fwenv`'s",
     }
     for page, text in wanted.items():
         check(page, text in " ".join((TOP / page).read_text().split()), f"it doesn't say {text!r}")
-    check("the crates without clauses", set(without) == {"fw_files", "fw_tools", "device_files", "hush_run", "fwenv"}, told)
+    check("the crates without clauses", set(without) == {"fw_files", "fw_tools", "fw_boots", "device_files", "hush_run", "fwenv"}, told)
     end()
 
 

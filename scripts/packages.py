@@ -305,6 +305,7 @@ def completions(folder):
                 "--known",
                 "--ignore",
                 "--strict",
+                "--all",
                 "--format",
                 "--env",
                 "--env-source",

@@ -79,7 +79,7 @@ _fwenv() {
         image) options='--env --env-source --env-plain --size --copies --both --output --big-endian -h --help' ;;
         run) options+="$dry_run --write --overwrite --boots --resets --must-boot --trace -e -f" ;;
         boot) options+="$dry_run --copy --boots --resets --bootcount --after --cuts --stored --ways --dot" ;;
-        check) options='-c --default --big-endian -h --help --shell --stubs --board --known --ignore --strict --format --env --env-source --env-plain --size -f' ;;
+        check) options='-c --default --big-endian -h --help --shell --stubs --board --known --ignore --strict --all --format --env --env-source --env-plain --size -f' ;;
         session) options+="$dry_run --write --overwrite --boots --resets" ;;
         help) options=$commands ;;
     esac

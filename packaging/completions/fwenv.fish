@@ -54,6 +54,7 @@ complete -c fwenv -n "__fish_seen_subcommand_from run boot check session" -l stu
 complete -c fwenv -n "__fish_seen_subcommand_from check" -l ignore -xa 'carriage-return syntax other-shell unknown-command exit and-or if-status loop-status stale-status wrong-use test-operator run-undefined run-unknown hidden-assignment quoted-for undefined-name no-variable no-script value-type' -d 'Kind of finding that is left out'
 complete -c fwenv -n "__fish_seen_subcommand_from check" -l known -rF -d 'Names that the board sets'
 complete -c fwenv -n "__fish_seen_subcommand_from check" -l strict -d 'Warnings count as errors'
+complete -c fwenv -n "__fish_seen_subcommand_from check" -l all -d 'Each other script of the environment too'
 complete -c fwenv -n "__fish_seen_subcommand_from check" -l format -xa 'text gcc json' -d 'How findings are printed'
 complete -c fwenv -n "__fish_seen_subcommand_from run boot check session" -l board -rF -d 'What a board answers'
 complete -c fwenv -n "__fish_seen_subcommand_from run boot session" -l steps -x -d 'Steps of a script'

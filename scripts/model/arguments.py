@@ -36,7 +36,7 @@ FORMS = {
         OPENING_VALUES | DRY_VALUES | {"--copy", "--boots", "--resets", "--after", "--stored", "--ways"},
         (0, 0),
     ),
-    "check": ({"--strict"}, OPENING_VALUES | WHOLE_VALUES | {"-f", "--shell", "--board", "--known", "--ignore", "--format"}, (0, None)),
+    "check": ({"--strict", "--all"}, OPENING_VALUES | WHOLE_VALUES | {"-f", "--shell", "--board", "--known", "--ignore", "--format"}, (0, None)),
 }
 # Options whose value names a text, which - takes from standard input
 TEXTS = ENVIRONMENTS | {"-c", "--default", "--stubs", "--board", "--known", "--after", "-s", "-f"}
@@ -172,7 +172,7 @@ Usage: fwenv run [OPTIONS] [NAMES]...
 
 For more information, try '--help'.
 """
-FILE_AND = b"""error: the argument '-f <FILE>' cannot be used with '[NAMES]...', '--default <FILE>', '--size <N>' or '--known <FILE>' without '-c <FILE>', '--env <FILE>', '--env-source <FILE>' or '--env-plain <FILE>'
+FILE_AND = b"""error: the argument '-f <FILE>' cannot be used with '[NAMES]...', '--default <FILE>', '--size <N>', '--known <FILE>' or '--all' without '-c <FILE>', '--env <FILE>', '--env-source <FILE>' or '--env-plain <FILE>'
 
 Usage: fwenv check [OPTIONS] [NAMES]...
 
@@ -278,7 +278,7 @@ class Call:
 
     def refuse_beside_file(self):
         """A check of files alone has nothing of an environment."""
-        if self.words or self.options.keys() & {"--default", "--size", "--known"}:
+        if self.words or self.options.keys() & {"--default", "--size", "--known", "--all"}:
             raise Wrong(FILE_AND)
 
     def refuse_overwrite_alone(self):

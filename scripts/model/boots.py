@@ -14,7 +14,7 @@ COUNTED = {BOOTS: b"boot", RESETS: b"reset", GIVES_UP: b"give up", UNKNOWN: b"un
 LEFT = {Reply.BOOTS: BOOTS, Reply.RESETS: RESETS}
 # What a board runs when it is switched on; it may count between the two
 PREBOOT = b"if env exists preboot; then run preboot; else true; fi; "
-POWER_ON = PREBOOT + (b'if test $? != 0 -a "${bootdelay}" != -1; then false || run bootcmd; elif test "${bootdelay}" != -1; then run bootcmd; fi')
+POWER_ON = PREBOOT + (b'if test $? != 0 -a "${bootdelay}" -ne -1; then false || run bootcmd; elif test "${bootdelay}" -ne -1; then run bootcmd; fi')
 # The question which script the system runs, which is no call
 AFTER = b"after"
 # The nodes of ends in a drawing, and how edges with such an end are drawn
@@ -70,7 +70,7 @@ class Board:
         save = b"saveenv; " if is_new else b""
         start = b"run" if made.status == 0 else b"false || run"
         command = b"altbootcmd" if is_new and 0 < limit < count else b"bootcmd"
-        return b'%ssetenv bootcount %d; %sif test "${bootdelay}" != -1; then %s %s; fi' % (PREBOOT, new, save, start, command)
+        return b'%ssetenv bootcount %d; %sif test "${bootdelay}" -ne -1; then %s %s; fi' % (PREBOOT, new, save, start, command)
 
     def run(self, made, tree):
         """How the run of a tree ends, by what, and what is stored then."""

@@ -47,9 +47,10 @@ OF_STATUSES = {
 STALE = b"shells differ in the `$?` with which a text or a turn of `for` begins"
 CUTS = b"a board cuts this word of a `for` at its blanks, in quotes too"
 NO_OPERATOR = b"`test` has no operator `%s` here"
-IS_VARIABLE = b"`%s` is an environment variable, "
+IS_VARIABLE, IS_WRITTEN = b"`%s` is an environment variable, ", b"a script sets `%s` in the environment, "
 # What the strict shell makes of both, and a board of the second
 IS_FALSE, NOT_ASSIGNED, HIDES = b", and is false", b"so it can not be assigned", b"which hides what is assigned"
+NOT_THERE = b"where it can not be assigned"
 NOT_GIVEN = b"`${%s}` names a variable that nothing defines"
 # What other shells have and this one doesn't
 LACKED = {
@@ -88,6 +89,10 @@ TEXT_FORMS = (b"sub", b"gsub", b"fmt")
 OF_NUMBERS = (b"-eq", b"-ne", b"-lt", b"-le", b"-gt", b"-ge")
 # The variables of a boot menu, and what comes before the script of an entry
 ENTRY_NAME, TITLE = re.compile(rb"bootmenu_[0-9]+"), re.compile(rb"[^=]*=?")
+# What begins a script and is no command; the first word of a value, and what is behind it; variables that are lists with a `;` between entries
+FORMS = {b"if", b"for", b"while", b"until"}
+FIRST_WORD = re.compile(rb"[ \t\n]*([^ \t\n;&|]*)[ \t\n]*(.?)", re.DOTALL)
+LIST = b"dfu_alt_info"
 # No further line is added once there are this many bytes; then it is reported that there is more
 MOST = 65_536
 MORE = b"more is found, and not printed\n"
@@ -110,7 +115,7 @@ class Finding:
 @dataclass
 class Known:
     """The shell; the values of the environment, or None if only one script is checked; the stand-ins, and the rules of a board, both None
-    if there is no file of either; the names of the scripts whose status is asked for; the names that something may set; those that a substitution may have; and those that `run` may.
+    if there is no file of either; the names of the scripts whose status is asked for; the names that something may set; those that a substitution may have; those that `run` may; and those of variables that a script sets to a value.
     """
 
     shell: object = STRICT
@@ -121,6 +126,7 @@ class Known:
     set: set = frozenset()
     defined: set = frozenset()
     started: set = frozenset()
+    written: set = frozenset()
 
 
 # How a file, a variable and the check as a whole are told of
@@ -292,18 +298,27 @@ def given(command, known):
 
 def foreseen(command, known):
     """The names that a command sets by `setenv`, `env set` or `setexpr`, substitutes in `test`, or asks for by `env exists`."""
-    name, arguments = called(command, known), words_of(command)[1:]
-    if name == b"test":
-        return {tested for _, tested in substituted(arguments)}
-    words = [literal(word) for word in arguments]
-    subcommand = known.shell.subcommand(words[0]) if name == b"env" and words[:1] not in ([], [None]) else None
-    if subcommand == b"exists":
-        return set(words[1:2]) - {None}
-    if subcommand == b"set":
-        name, words = b"setenv", words[1:]
-    if name == b"setenv" and words[:1] == [b"-f"]:
-        words = words[1:]
+    if called(command, known) == b"test":
+        return {tested for _, tested in substituted(words_of(command)[1:])}
+    name, words = set_by(command, known)
+    if name == b"exists":
+        return set(words[:1]) - {None}
     return set(words[:1]) - {None} if name in SETTING else set()
+
+
+def set_by(command, known):
+    """What a command sets or asks for a variable by, and the literal arguments from its name on."""
+    name, words = called(command, known), [literal(word) for word in words_of(command)[1:]]
+    if name == b"env" and words[:1] not in ([], [None]):
+        name, words = known.shell.subcommand(words[0]), words[1:]
+        name = b"setenv" if name == b"set" else name if name == b"exists" else None
+    return name, words[1:] if name == b"setenv" and words[:1] == [b"-f"] else words
+
+
+def written_names(command, known):
+    """The name of the variable that a command sets to a value."""
+    name, words = set_by(command, known)
+    return set(words[:1]) - {None} if name in SETTING and len(words) > 1 else set()
 
 
 # The kinds of findings in a text
@@ -453,10 +468,12 @@ def constant_field(word, known):
 
 
 def refused_assignment(command, known):
-    """An assignment, or the head of a `for`, that the environment refuses."""
-    if command[0] not in ("assign", "for") or known.values is None or command[1] not in known.values:
+    """An assignment, or the head of a `for`, of a name whose variable the environment holds, or a script sets."""
+    if command[0] not in ("assign", "for") or known.values is None or command[1] not in {*known.values, *known.written}:
         return []
-    return [Finding(command[-1], b"hidden-assignment", IS_VARIABLE % command[1] + (HIDES if known.shell.hides else NOT_ASSIGNED))]
+    is_there = command[1] in known.values
+    said, refused = (IS_VARIABLE, NOT_ASSIGNED) if is_there else (IS_WRITTEN, NOT_THERE)
+    return [Finding(command[-1], b"hidden-assignment", said % command[1] + (HIDES if known.shell.hides else refused))]
 
 
 def misuse(name, words, known):
@@ -631,6 +648,19 @@ def is_entry(name, values):
     return ENTRY_NAME.fullmatch(name) and b"=" in values[name]
 
 
+def is_there(name, known):
+    """Whether a command of this name, as it is written, is there."""
+    return answered(name, known) or (name in BUILTINS and not lacks(known.board or [], name))
+
+
+def looks_like_script(name, known):
+    """Whether more follows the first word of a variable's value, which a script may begin with."""
+    if ENTRY_NAME.fullmatch(name) or name.startswith(LIST):
+        return False
+    word, more = FIRST_WORD.match(known.values[name]).groups()
+    return bool(more) and (word in FORMS or is_there(word, known))
+
+
 def text_of_script(name, values):
     """The script of a variable: of an entry of a boot menu what is after the first `=`, at its place."""
     value = values[name]
@@ -676,20 +706,23 @@ def not_typed(values):
     return [name for name, value in sorted(values.items()) if not TYPES[given.get(name, PLAIN)[0]].fullmatch(value)]
 
 
-def of_environment(shell, values, stand_ins, board, own, names, files, *asked):
-    """The scripts of files, each a path and its text, those that are named, and those that they start; without files then whether there was
+def of_environment(shell, values, stand_ins, board, own, names, files, is_all, *asked):
+    """The scripts of files, each a path and its text, those that are named, with `--all` those that look like some, and those that they start; without files then whether there was
     a script, and the types of all variables. `own` are names that the board's own code sets."""
     report = Report(*asked)
     for name in names:
         if name not in values:
             report.add_line(VARIABLE, name, (), b"no-variable", NOT_DEFINED)
     known = Known(shell, values, stand_ins, board)
-    usual = [] if files else [*STARTED, *sorted(name for name in values if is_entry(name, values))]
+    usual = [*STARTED, *sorted(name for name in values if is_entry(name, values))]
+    if is_all:
+        names = [*names, *usual, *sorted(name for name in values if looks_like_script(name, known))]
     texts = [text for _, text in files]
-    scripts = visited(known, names or usual, texts)
+    scripts = visited(known, names or ([] if files else usual), texts)
     known.set = names_by(given, known, scripts, texts) | SET_BY_UBOOT | set(own)
     known.defined = values.keys() | known.set
     known.started = values.keys() | names_by(foreseen, known, scripts, texts)
+    known.written = names_by(written_names, known, scripts, texts)
     known.asked = asked_among(scripts, known, texts)
     for path, text in files:
         report.add(FILE, path, text, findings(text, known))

@@ -447,7 +447,7 @@ class Program:
         if is_alone:
             found = check.of_files(shell, scripts, *hardware, *asked)
         else:
-            found = check.of_environment(shell, values, *hardware, known, call.words, scripts, *asked)
+            found = check.of_environment(shell, values, *hardware, known, call.words, scripts, "--all" in call.options, *asked)
         self.output = found.printed()
         self.say(found.last())
         return found.status()

@@ -26,7 +26,7 @@ from cases import answers_of, cases, typed
 from counted import check, end
 from dry_run import ANSWER, TOP, Pair, answer_of
 from images import COUNT, MANY, answers_to_many, answers_to_row, faults_of_environment
-from power_ons import POWER_ONS, answers_to_power_ons, counted_rows
+from power_ons import answers_to_power_ons, counted_rows, power_on_rows
 from rows import Row, fault_of, read_rows
 from silent import faults_of_silent
 
@@ -90,8 +90,8 @@ def take_row(row, release, answers):
 
 
 def documented_classes():
-    """The classes that have a line in a table of docs/differences.md."""
-    return re.findall(r"(?m)^\| `([a-z0-9-]+)` \|", DOCUMENT.read_text())
+    """The classes that have an item in a list of docs/differences.md."""
+    return re.findall(r"(?m)^- \*\*`([a-z0-9-]+)`\*\*:", DOCUMENT.read_text())
 
 
 def compare_classes(rows):
@@ -128,9 +128,8 @@ def work_on_images(rows, pair):
 
 
 def work_on_power_ons(pair):
-    for name, variables in POWER_ONS:
-        copy = pair.copy(f"power-on {name}")
-        yield Row(f"power-on: {name}"), functools.partial(answers_to_power_ons, variables, copy)
+    for row, variables in power_on_rows():
+        yield row, functools.partial(answers_to_power_ons, variables, pair.copy(row.place))
 
 
 def compare_counted(only, pair, pool):
@@ -181,7 +180,7 @@ def main(arguments):
     rows = [row for path in sorted(HERE.glob("*.rows")) for row in read_rows(path)]
     value_of = dict(zip(arguments, arguments[1:]))
     if "--random" not in arguments:
-        compare_classes([*rows, MANY, *(row for row, _ in counted_rows())])
+        compare_classes([*rows, MANY, *(row for row, _ in (*power_on_rows(), *counted_rows()))])
     if "--classes" not in arguments:
         with tempfile.TemporaryDirectory() as folder, ThreadPoolExecutor(os.cpu_count()) as pool:
             for release, firmware in firmwares().items():

@@ -15,7 +15,7 @@ from rows import Difference, Row
 RULES = b"reset -> resets\n"
 STARTED = re.compile(rb"^U-Boot 20", re.M)
 MOST_STARTS = 20
-# What each is about, and its variables
+# What each is about, its variables, and perhaps the class in which the two differ and their answers
 POWER_ONS = [
     ("nothing is defined", {b"a": b"1"}),
     ("a counter", {b"n": b"1", b"bootcmd": b"if test ${n} != 3; then setexpr n ${n} + 1; saveenv; reset; fi"}),
@@ -29,10 +29,14 @@ POWER_ONS = [
     ("preboot is no script", {b"preboot": b"if", b"bootcmd": b"setenv got 1; saveenv"}),
     ("preboot alone", {b"preboot": b"setenv a 2", b"a": b"1"}),
     ("no delay", {b"bootdelay": b"-1", b"bootcmd": b"setenv got 1; saveenv"}),
+    ("a delay of -01", {b"bootdelay": b"-01", b"bootcmd": b"setenv got 1; saveenv"}),
+    ("a delay with a unit", {b"bootdelay": b"-1s", b"bootcmd": b"setenv got 1; saveenv"}),
+    ("a hexadecimal delay", {b"bootdelay": b"-0x1", b"bootcmd": b"setenv got 1; saveenv"}),
+    ("a delay of 32 bits", {b"bootdelay": b"4294967295", b"bootcmd": b"setenv got 1; saveenv"}, "delay-numbers", b"0 resets / bootcmd=.. / bootdelay=4294967295 / ..", b"0 resets / .. / got=1 / .."),
     ("preboot takes the delay away", {b"preboot": b"setenv bootdelay -1", b"bootcmd": b"setenv got 1; saveenv"}),
     ("preboot gives one", {b"bootdelay": b"-1", b"preboot": b"setenv bootdelay 2", b"bootcmd": b"setenv got 1; saveenv"}),
     ("a run in a run", {b"a": b"run b; setenv got ${got}a", b"b": b"setenv got b", b"bootcmd": b"run a none; saveenv"}),
-]
+]  # fmt: skip
 
 
 def counting(**variables):
@@ -52,7 +56,7 @@ def full():
 NEXT = "setenv log ${log}.${bootcount}; saveenv; reset"
 BACK = "setenv got ${bootcount}; saveenv"
 GOT = {"bootcmd": BACK, "altbootcmd": "setenv alternative 1; " + BACK}
-# The same of a board that counts: what each is about, its variables, and perhaps the class in which the two differ and their answers
+# The same of a board that counts
 COUNTED = [
     ("a count up to its limit", counting()),
     ("one that has begun", counting(bootcount="2", bootlimit="4")),
@@ -158,8 +162,17 @@ def answers_to_power_ons(variables, copy, *options):
     return on_board(copy), by_program
 
 
+def power_on_rows():
+    """The rows of a board that doesn't count, each with its variables."""
+    return rows_of("power-on", POWER_ONS)
+
+
 def counted_rows():
-    """The rows of a board that counts, each with its variables."""
-    for what, variables, *difference in COUNTED:
+    """Those of one that counts."""
+    return rows_of("counted power-on", COUNTED)
+
+
+def rows_of(kind, power_ons):
+    for what, variables, *difference in power_ons:
         differences = [Difference("", [difference[0]], *([line] for line in difference[1:]))] if difference else []
-        yield Row(f"counted power-on: {what}", differences=differences), variables
+        yield Row(f"{kind}: {what}", differences=differences), variables

@@ -17,13 +17,15 @@ pub enum Format {
     Json,
 }
 
-/// What counts, and how it is told.
+/// What is looked at, what counts, and how it is told.
 #[derive(Clone, Copy, Debug)]
 pub struct Choice<'c> {
     /// The codes of the kinds that are left out.
     pub ignored: Option<&'c [&'c str]>,
     /// Whether a warning counts as an error.
     pub strict: bool,
+    /// Whether each variable whose value looks like a script is looked at.
+    pub all: bool,
     /// How findings are printed.
     pub format: Format,
 }

@@ -43,7 +43,7 @@ bad_code =
     codes "' for '--ignore <CODE>'\n  [possible values: carriage-return, syntax, other-shell, unknown-command, exit, and-or, if-status, loop-status, stale-status, wrong-use, test-operator, run-undefined, run-unknown, hidden-assignment, quoted-for, undefined-name, no-variable, no-script, value-type]\n\nFor more information, try '--help'.\n"
 
 abbrev pub choice_by : List Row → Format → Choice
-choice_by rows format = record { ignored = all_values (codes "ignore") rows; strict = is_given (codes "strict") rows; format = format }
+choice_by rows format = record { ignored = all_values (codes "ignore") rows; strict = is_given (codes "strict") rows; all = is_given (codes "all") rows; format = format }
 
 abbrev pub choice_unless : Option Text → List Row → Result Choice Text
 choice_unless (Some word) rows = Err (codes "error: invalid value '" ++ word ++ bad_code)
@@ -70,12 +70,12 @@ names_environment rows = is_given (codes "config") rows || (is_given (codes "env
 
 -- whether something is given that is of an environment
 abbrev pub needs_environment : List Row → Bool
-needs_environment rows = is_given (codes "names") rows || (is_given (codes "default") rows || (is_given (codes "size") rows || is_given (codes "known") rows))
+needs_environment rows = is_given (codes "names") rows || (is_given (codes "default") rows || (is_given (codes "size") rows || (is_given (codes "known") rows || is_given (codes "all") rows)))
 
 -- what is wrong if it is given with the scripts of files alone
 abbrev pub file_alone : Text
 file_alone =
-    codes "error: the argument '-f <FILE>' cannot be used with '[NAMES]...', '--default <FILE>', '--size <N>' or '--known <FILE>' without '-c <FILE>', '--env <FILE>', '--env-source <FILE>' or '--env-plain <FILE>'\n\nUsage: fwenv check [OPTIONS] [NAMES]...\n\nFor more information, try '--help'.\n"
+    codes "error: the argument '-f <FILE>' cannot be used with '[NAMES]...', '--default <FILE>', '--size <N>', '--known <FILE>' or '--all' without '-c <FILE>', '--env <FILE>', '--env-source <FILE>' or '--env-plain <FILE>'\n\nUsage: fwenv check [OPTIONS] [NAMES]...\n\nFor more information, try '--help'.\n"
 
 abbrev pub file_check_by : List Text → List Row → Shell × Choice → FileCheck
 file_check_by paths rows rules = record { shell = rules.0; stand_ins = first_of (codes "stubs") rows; board = first_of (codes "board") rows; choice = rules.1; paths = paths }

@@ -132,8 +132,8 @@ pub(crate) const SEVERAL_SCRIPTS: &[u8] =
 
 /// What is wrong if the script of a file is to be checked and an environment is named.
 pub(crate) const FILE_ALONE: &[u8] =
-    b"error: the argument '-f <FILE>' cannot be used with '[NAMES]...', '--default <FILE>', '--size <N>' or \
-    '--known <FILE>' without '-c <FILE>', '--env <FILE>', '--env-source <FILE>' or '--env-plain <FILE>'\n\nUsage: fwenv check [OPTIONS] [NAMES]...\n\n\
+    b"error: the argument '-f <FILE>' cannot be used with '[NAMES]...', '--default <FILE>', '--size <N>', \
+    '--known <FILE>' or '--all' without '-c <FILE>', '--env <FILE>', '--env-source <FILE>' or '--env-plain <FILE>'\n\nUsage: fwenv check [OPTIONS] [NAMES]...\n\n\
     For more information, try '--help'.\n";
 
 pub(crate) const BAD_FORMAT: &[u8] =

@@ -17,7 +17,7 @@ use clap::ArgMatches;
 use finding_kinds::{Choice, Format, is_code};
 use hush_commands::Shell;
 
-/// A check over an environment: `check [--shell SHELL] [--stubs FILE] [--board FILE] [--known FILE] [--ignore CODE].. [--strict]
+/// A check over an environment: `check [--shell SHELL] [--stubs FILE] [--board FILE] [--known FILE] [--ignore CODE].. [--strict] [--all]
 /// [-f FILE].. [NAMES]`.
 #[derive(Clone, Copy, Debug)]
 pub struct EnvironmentCheck<'m, 'w> {
@@ -176,6 +176,7 @@ fn choice_by<'m, 'w>(found: &'m ArgMatches<'w>, format: Format) -> Choice<'m>
     Choice {
         ignored: values(found, "ignore"),
         strict: is_given(found, "strict"),
+        all: is_given(found, "all"),
         format,
     }
 }
@@ -220,4 +221,5 @@ fn needs_environment(found: &ArgMatches<'_>) -> bool
         || is_given(found, "default")
         || is_given(found, "size")
         || is_given(found, "known")
+        || is_given(found, "all")
 }

@@ -493,6 +493,14 @@ pub const STRICT: Row = Row {
     help: "Warnings count as errors",
 };
 
+/// `--all`
+pub const ALL: Row = Row {
+    id: "all",
+    names: Names::Long("all"),
+    takes: Takes::Nothing,
+    help: "Also look at each other variable whose value looks like a script",
+};
+
 /// `--format FORMAT`
 pub const FORMAT: Row = Row {
     id: "format",
@@ -686,6 +694,7 @@ pub const CHECK: Called = Called {
         KNOWN,
         IGNORE,
         STRICT,
+        ALL,
         FORMAT,
         ENV,
         ENV_SOURCE,

@@ -96,9 +96,13 @@ outcome_over p held answers =
 abbrev pub runs_of : Power → (stored : List ℕ) → List Given → Outcome
 runs_of p stored = outcome_over p (session_of p.shape p.defaults stored)
 
--- what is told of a stored environment
+-- what is told of a stored environment, beside these first variables
+abbrev pub tells_from : (first : Environment) → Power → (stored : List ℕ) → List ℕ
+tells_from first p stored = change_lines first (stored_env p.shape p.defaults stored)
+
+-- beside the board's own first
 abbrev pub tells_of : Power → (stored : List ℕ) → List ℕ
-tells_of p stored = change_lines (stored_env p.shape p.defaults p.first) (stored_env p.shape p.defaults stored)
+tells_of p = tells_from (stored_env p.shape p.defaults p.first) p
 
 -- a survey lists what power-ons lead to, beginning with the first copy, and no more ways than the most
 abbrev pub IsSurveyOf : Power → (most : ℕ) → Survey → Type 0

@@ -39,7 +39,7 @@ preboot_text = codes "if env exists preboot; then run preboot; else true; fi"
 -- `bootcmd` begins with status 0, or with 1 if `preboot` left another. With the count it is `preboot` that comes first.
 abbrev pub power_on_text : (counts : Bool) → List ℕ
 power_on_text true = preboot_text
-power_on_text false = codes "if env exists preboot; then run preboot; else true; fi; if test $? != 0 -a \"${bootdelay}\" != -1; then false || run bootcmd; elif test \"${bootdelay}\" != -1; then run bootcmd; fi"
+power_on_text false = codes "if env exists preboot; then run preboot; else true; fi; if test $? != 0 -a \"${bootdelay}\" -ne -1; then false || run bootcmd; elif test \"${bootdelay}\" -ne -1; then run bootcmd; fi"
 
 -- ---- the count of boots
 
@@ -88,7 +88,7 @@ save_of false = []
 
 -- it begins with status 0, or with 1 if `preboot` left another
 abbrev pub start_of : (status : ℕ) → List ℕ
-start_of status = codes "; if test \"${bootdelay}\" != -1; then " ++ (if status == 0 then codes "run " else codes "false || run ")
+start_of status = codes "; if test \"${bootdelay}\" -ne -1; then " ++ (if status == 0 then codes "run " else codes "false || run ")
 
 -- what a board with the count runs when its power comes on, by the session and the status that `preboot` leaves: that, the
 -- count as commands, and `bootcmd` or `altbootcmd`

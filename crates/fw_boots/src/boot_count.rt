@@ -145,9 +145,9 @@ fn start_of(status: u8) -> &'static [u8]
     ensures { result.now ≡ start_of status }
 {
     if status == 0 {
-        b"; if test \"${bootdelay}\" != -1; then run "
+        b"; if test \"${bootdelay}\" -ne -1; then run "
     } else {
-        b"; if test \"${bootdelay}\" != -1; then false || run "
+        b"; if test \"${bootdelay}\" -ne -1; then false || run "
     }
 }
 

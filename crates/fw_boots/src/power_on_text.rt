@@ -12,7 +12,7 @@ use std::alloc::{AllocError, Global};
 /// `preboot` if there is one, and `bootcmd` unless `bootdelay` is -1 then; `bootcmd` begins with status 0, or with 1 if
 /// `preboot` left another.
 const POWER_ON: &[u8] =
-    b"if env exists preboot; then run preboot; else true; fi; if test $? != 0 -a \"${bootdelay}\" != -1; then false || run bootcmd; elif test \"${bootdelay}\" != -1; then run bootcmd; fi";
+    b"if env exists preboot; then run preboot; else true; fi; if test $? != 0 -a \"${bootdelay}\" -ne -1; then false || run bootcmd; elif test \"${bootdelay}\" -ne -1; then run bootcmd; fi";
 
 /// `preboot` alone, if there is one.
 pub(crate) const PREBOOT: &[u8] = b"if env exists preboot; then run preboot; else true; fi";

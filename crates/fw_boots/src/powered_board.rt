@@ -4,6 +4,7 @@ ghost use Rattle.boot_search.specs.Outcomes.{given_of, outcome_of};
 ghost use Rattle.env_requests.specs.Views.{rules_of};
 ghost use Rattle.env_session.specs.Session.{undone};
 ghost use Rattle.hush_syntax.specs.Scripts.{tree_of};
+ghost use Rattle.fw_boots.specs.Boots.{outcome_over, power_of, runs_of};
 ghost use Rattle.fw_boots.specs.Cuts.{cutting_of};
 ghost use Rattle.fw_boots.specs.PowerOns.{counted_tree, power_on};
 
@@ -28,6 +29,31 @@ pub struct PoweredBoard<'a> {
     pub(crate) session: Session,
     /// The board.
     pub(crate) boot: Boot<'a>,
+}
+
+/// The board with this environment stored on it. `AllocError` if memory runs out.
+pub(crate) fn with_stored<'a>(
+    alloc: Global,
+    boot: &Boot<'a>,
+    stored: &[u8],
+) -> Result<PoweredBoard<'a>, AllocError>
+    ensures { IfOk result (λ board. outcome_over (power_of board.boot) (undone 0 board.session)
+        ≡ runs_of (power_of boot.now) stored.now) }
+{
+    let session = boot.session(alloc, stored)?;
+    Ok(PoweredBoard {
+        session,
+        boot: Boot {
+            rules: boot.rules,
+            cuts: boot.cuts,
+            counts: boot.counts,
+            script: boot.script,
+            after: boot.after,
+            geometry: boot.geometry,
+            defaults: boot.defaults,
+            first: boot.first,
+        },
+    })
 }
 
 impl<'a> Powered for PoweredBoard<'a> {

@@ -1,14 +1,12 @@
 -- Findings after findings.
-use Rattle.std.proofs.Common.{◌≡◌, ℕ, Bool, true, false, List, [], ◌∷◌, ◌++◌, refl, sym, ap, ◌∙◌, Option, Some, None, if◌then◌else◌}
+use Rattle.std.proofs.Common.{◌≡◌, ℕ, Bool, true, List, [], ◌∷◌, ◌++◌, refl, sym, ap, ◌∙◌, Some, None, if◌then◌else◌}
 use Rattle.std.specs.Prelude.{OnOk, Result, Ok, Err}
 use Rattle.std.specs.List.{list_any, position_or_len}
 use Rattle.std.proofs.lemmas.Grind.{fold-append}
 use Rattle.memchr.specs.Find.{IsFirstByte}
 use Rattle.text_parts.proofs.CutLemmas.{list_any-answer, position_or_len-found}
-use Rattle.hush_commands.specs.declared.shell.Shell.{Shell}
 use Rattle.finding_kinds.specs.declared.kinds.FindingKind.TheVariants as kind
-use Rattle.fw_check.specs.Findings.{Finding, Report, assigned_findings, found_at, is_return, refused_sentence, return_findings, return_sentence, with_finding, with_findings}
-use Rattle.fw_check.specs.Knowing.{Known, is_defined}
+use Rattle.fw_check.specs.Findings.{Finding, Report, found_at, is_return, return_findings, return_sentence, with_finding, with_findings}
 use Rattle.fw_check.specs.Found.{Found, found_more}
 use Rattle.fw_check.specs.Lines.{Subject}
 
@@ -23,26 +21,6 @@ found-none f = ap (λ (r : Report). let g : Found = record f { report = r } in g
 
 pub found-append : (f : Found) (xs ys : List Finding) → found_more (found_more f xs) ys ≡ found_more f (xs ++ ys)
 found-append f xs ys = ap (λ (r : Report). let g : Found = record f { report = r } in g) (report-append f.subject f.text f.report xs ys)
-
--- ---- what is found if a name has a property, and if it hasn't
-
-abbrev if-so : Bool → Finding → List Finding
-if-so b f = if b then f ∷ [] else []
-
-so-yes : (old new : Found) (t b : Bool) (f : Finding) → t ≡ b → t ≡ true → new ≡ found_more old (f ∷ []) → new ≡ found_more old (if-so b f)
-so-yes old new t b f same holds is = is ∙ ap (λ (x : Bool). found_more old (if-so x f)) (sym holds ∙ same)
-
-so-no : (old new : Found) (t b : Bool) (f : Finding) → t ≡ b → t ≡ false → new ≡ old → new ≡ found_more old (if-so b f)
-so-no old new t b f same fails is = is ∙ sym (found-none old) ∙ ap (λ (x : Bool). found_more old (if-so x f)) (sym fails ∙ same)
-
-module _ (shell : Shell) (known : Option Known) (count : ℕ) (literal : Option (List ℕ)) (name : List ℕ) (named : Some name ≡ literal) (old new : Found) (t : Bool) where
-  pub assigned-yes : t ≡ is_defined known name → t ≡ true → new ≡ found_more old (found_at count kind.HiddenAssignment (refused_sentence shell name) ∷ []) → new ≡ found_more old (assigned_findings shell known count literal)
-  assigned-yes same holds is =
-      so-yes old new t (is_defined known name) (found_at count kind.HiddenAssignment (refused_sentence shell name)) same holds is ∙ ap (λ (o : Option (List ℕ)). found_more old (assigned_findings shell known count o)) named
-
-  pub assigned-no : t ≡ is_defined known name → t ≡ false → new ≡ old → new ≡ found_more old (assigned_findings shell known count literal)
-  assigned-no same fails is =
-      so-no old new t (is_defined known name) (found_at count kind.HiddenAssignment (refused_sentence shell name)) same fails is ∙ ap (λ (o : Option (List ℕ)). found_more old (assigned_findings shell known count o)) named
 
 -- ---- the first carriage return
 

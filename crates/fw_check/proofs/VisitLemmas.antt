@@ -9,18 +9,19 @@ use Rattle.hush_syntax.specs.FaultPlaces.{IsFaultOf}
 use Rattle.hush_syntax.specs.Reading.{read_in}
 use Rattle.hush_syntax.specs.declared.syntax_fault.FaultKind.TheVariants.{Memory}
 use Rattle.hush_syntax.specs.declared.syntax_fault.SyntaxFault.{SyntaxFault}
+use Rattle.hush_commands.specs.Hardware.{Hardware}
 use Rattle.hush_run.specs.Meaning.{bodies_of}
 use Rattle.finding_kinds.specs.declared.kinds.FindingKind.TheVariants as kind
-use Rattle.fw_check.specs.Checking.{AreFollowed, AreVisited, Faulty, Reports, Script, Visit, after_visit, follow_texts, in_all, known_after, reading_findings, script_in}
+use Rattle.fw_check.specs.Checking.{AreFollowed, AreVisited, Faulty, Reports, Script, Visit, after_visit, follow_texts, in_all, in_read, known_after, reading_findings, script_in}
 use Rattle.fw_check.specs.Called.{Given, in_answers}
 use Rattle.fw_check.specs.Findings.{Report, fault_sentence, found_at, return_findings, with_findings, with_script}
 use Rattle.fw_check.specs.Knowing.{Known}
-use Rattle.fw_check.specs.Following.{Followed, begin_from, follow_fronts}
+use Rattle.fw_check.specs.Following.{Followed, begin_all, begin_from, follow_fronts, is_among}
 use Rattle.fw_check.specs.Found.{Found, found_more}
 use Rattle.fw_check.specs.Lines.{Subject, Variable}
 use Rattle.fw_check.specs.Literals.{Front}
 use Rattle.fw_check.specs.NameSets.{no_names, with_all}
-use Rattle.fw_check.specs.Naming.{foreseen_in, given_in, run_in}
+use Rattle.fw_check.specs.Naming.{foreseen_in, given_in, run_in, written_in}
 use Rattle.fw_check.specs.Reports.{GoesOn, Reads, ReadsItems}
 use Rattle.fw_check.proofs.FoundLemmas.{found-append}
 use Rattle.fw_check.proofs.FollowLemmas.{fronts-env, fronts-longer}
@@ -73,15 +74,16 @@ take-whole (x ∷ names) (suc index) e = ap (λ (ns : List (List ℕ)). x ∷ ns
 abbrev IsSet : Environment → (names_in : List ℕ → List (List ℕ)) → (before : List ℕ → Bool) → List (List ℕ) → (List ℕ → Bool) → Type 0
 IsSet env names_in before visited set = set ≡ with_all before (in_all names_in env visited)
 
--- from these names on the first ones were visited, and these are the sets with what their scripts give and foresee
-pub record Follows (rules : Given) (env : Environment) (first now : Followed) (index : ℕ) (gave foresaw given foreseen : List ℕ → Bool) : Type 0 where
+-- from these names on the first ones were visited, and these are the sets with what their scripts give, foresee and write
+pub record Follows (rules : Given) (env : Environment) (first now : Followed) (index : ℕ) (gave foresaw wrote given foreseen written : List ℕ → Bool) : Type 0 where
   pub same : now.env ≡ env
   pub visited : (rest : List (List ℕ)) → AreVisited rules now index rest → AreVisited rules first 0 (take index now.names ++ rest)
   pub gives : IsSet env (given_in rules) gave (take index now.names) given
   pub foresees : IsSet env (foreseen_in rules) foresaw (take index now.names) foreseen
+  pub writes : IsSet env (written_in rules) wrote (take index now.names) written
 
-pub follows-none : (rules : Given) (env : Environment) (f : Followed) (given foreseen : List ℕ → Bool) → f.env ≡ env → Follows rules env f f 0 given foreseen given foreseen
-follows-none rules env f given foreseen same = record { same = same; visited = λ rest h. h; gives = refl; foresees = refl }
+pub follows-none : (rules : Given) (env : Environment) (f : Followed) (given foreseen written : List ℕ → Bool) → f.env ≡ env → Follows rules env f f 0 given foreseen written given foreseen written
+follows-none rules env f given foreseen written same = record { same = same; visited = λ rest h. h; gives = refl; foresees = refl; writes = refl }
 
 module _ (rules : Given) (env : Environment) (first now more : Followed) (index : ℕ) (name : List ℕ) (same : now.env ≡ env) (here : slice_get now.names index ≡ Some name)
     (followed : more ≡ follow_fronts now (run_in rules (script_in env name))) where
@@ -105,9 +107,10 @@ module _ (rules : Given) (env : Environment) (first now more : Followed) (index 
   next-followed : more ≡ follow_fronts now (run_in rules (script_in now.env name))
   next-followed = followed ∙ ap (λ (e : Environment). follow_fronts now (run_in rules (script_in e name))) (sym same)
 
-  pub follows-next : (gave foresaw given foreseen gives foresees : List ℕ → Bool) → Follows rules env first now index gave foresaw given foreseen → gives ≡ with_all given (given_in rules (script_in env name)) →
-      foresees ≡ with_all foreseen (foreseen_in rules (script_in env name)) → Follows rules env first more (index + 1) gave foresaw gives foresees
-  follows-next gave foresaw given foreseen gives foresees so_far added foreseen_too = record {
+  pub follows-next : (gave foresaw wrote given foreseen written gives foresees writes : List ℕ → Bool) → Follows rules env first now index gave foresaw wrote given foreseen written →
+      gives ≡ with_all given (given_in rules (script_in env name)) → foresees ≡ with_all foreseen (foreseen_in rules (script_in env name)) →
+      writes ≡ with_all written (written_in rules (script_in env name)) → Follows rules env first more (index + 1) gave foresaw wrote gives foresees writes
+  follows-next gave foresaw wrote given foreseen written gives foresees writes so_far added foreseen_too written_too = record {
     same = ap (λ (f : Followed). f.env) followed ∙ fronts-env now (run_in rules (script_in env name)) ∙ same;
     visited = λ rest h.
         let after = subst (λ (n : ℕ). AreVisited rules more n rest) (let e : index + 1 ≡ suc index = omega arith in e) h in
@@ -115,6 +118,7 @@ module _ (rules : Given) (env : Environment) (first now more : Followed) (index 
         subst (AreVisited rules first 0) (sym (append_assoc (take index now.names) (name ∷ []) rest) ∙ ap (λ (ns : List (List ℕ)). ns ++ rest) (sym next-visited)) all;
     gives = next-set (given_in rules) gave given gives so_far.gives added;
     foresees = next-set (foreseen_in rules) foresaw foreseen foresees so_far.foresees foreseen_too;
+    writes = next-set (written_in rules) wrote written writes so_far.writes written_too;
   }
 
 pub no-more : (names : List (List ℕ)) (index : ℕ) (o : Option (Vec ℕ Global)) → option_map (λ v. v.items) o ≡ slice_get names index → ((v : Vec ℕ Global) → o ≡ Some v → ⊥) → slice_get names index ≡ None
@@ -122,22 +126,29 @@ no-more names index None e none = sym e
 no-more names index (Some v) e none = absurd (none v refl)
 
 module _ (rules : Given) (env : Environment) (first now : Followed) (index : ℕ) (end : slice_get now.names index ≡ None) where
-  pub visited-all : (gave foresaw given foreseen : List ℕ → Bool) → Follows rules env first now index gave foresaw given foreseen → AreVisited rules first 0 now.names
-  visited-all gave foresaw given foreseen f = subst (AreVisited rules first 0) (append-nil (take index now.names) ∙ take-whole now.names index end) (f.visited [] end)
+  pub visited-all : (gave foresaw wrote given foreseen written : List ℕ → Bool) → Follows rules env first now index gave foresaw wrote given foreseen written → AreVisited rules first 0 now.names
+  visited-all gave foresaw wrote given foreseen written f = subst (AreVisited rules first 0) (append-nil (take index now.names) ∙ take-whole now.names index end) (f.visited [] end)
 
   set-all : (names_in : List ℕ → List (List ℕ)) (before set : List ℕ → Bool) → IsSet env names_in before (take index now.names) set → IsSet env names_in before now.names set
   set-all names_in before set is = is ∙ ap (λ (ns : List (List ℕ)). with_all before (in_all names_in env ns)) (take-whole now.names index end)
 
-  pub given-all : (gave foresaw given foreseen : List ℕ → Bool) → Follows rules env first now index gave foresaw given foreseen → IsSet env (given_in rules) gave now.names given
-  given-all gave foresaw given foreseen f = set-all (given_in rules) gave given f.gives
+  pub given-all : (gave foresaw wrote given foreseen written : List ℕ → Bool) → Follows rules env first now index gave foresaw wrote given foreseen written → IsSet env (given_in rules) gave now.names given
+  given-all gave foresaw wrote given foreseen written f = set-all (given_in rules) gave given f.gives
 
-  pub foreseen-all : (gave foresaw given foreseen : List ℕ → Bool) → Follows rules env first now index gave foresaw given foreseen → IsSet env (foreseen_in rules) foresaw now.names foreseen
-  foreseen-all gave foresaw given foreseen f = set-all (foreseen_in rules) foresaw foreseen f.foresees
+  pub foreseen-all : (gave foresaw wrote given foreseen written : List ℕ → Bool) → Follows rules env first now index gave foresaw wrote given foreseen written → IsSet env (foreseen_in rules) foresaw now.names foreseen
+  foreseen-all gave foresaw wrote given foreseen written f = set-all (foreseen_in rules) foresaw foreseen f.foresees
+
+  pub written-all : (gave foresaw wrote given foreseen written : List ℕ → Bool) → Follows rules env first now index gave foresaw wrote given foreseen written → IsSet env (written_in rules) wrote now.names written
+  written-all gave foresaw wrote given foreseen written f = set-all (written_in rules) wrote written f.writes
 
 pub begin-env : (f : Followed) (alone : Bool) (names : List (List ℕ)) → (begin_from f alone names).env ≡ f.env
 begin-env f true [] = refl
 begin-env f false [] = refl
 begin-env f alone (name ∷ names) = refl
+
+pub all-env : (h : Option Hardware) (f : Followed) (all alone : Bool) (names : List (List ℕ)) → (begin_all h f all alone names).env ≡ f.env
+all-env h f true alone names = refl
+all-env h f false alone names = begin-env f alone names
 
 -- ---- with the names that the board's own code sets, and those in the texts that answer calls and in those of files
 
@@ -162,14 +173,23 @@ module _ (rules : Given) (env : Environment) (texts names : List (List ℕ)) whe
       last ∙ ap (λ (s : List ℕ → Bool). with_all s d) (fourth ∙ ap (λ (s : List ℕ → Bool). with_all s t) answers)
       ∙ with-append (with_all (with_all no_names a) b) t d ∙ with-append (with_all no_names a) b (t ++ d) ∙ with-append no_names a (b ++ (t ++ d)) ∙ all-among (a ++ (b ++ (t ++ d)))
 
-  pub foreseen-known : (none answered filed all : List ℕ → Bool) → none ≡ no_names → answered ≡ with_all none (in_answers (foreseen_in rules) rules.hardware) →
-      filed ≡ with_all answered (flat_map (foreseen_in rules) texts) → all ≡ with_all filed (in_all (foreseen_in rules) env names) → all ≡ (known_after rules env texts names).foreseen
-  foreseen-known none answered filed all first second third last =
-      let b = in_answers (foreseen_in rules) rules.hardware in
-      let t = flat_map (foreseen_in rules) texts in
-      let d = in_all (foreseen_in rules) env names in
+  -- the same for names that are foreseen, and that are written
+  read-known : (names_in : List ℕ → List (List ℕ)) (none answered filed all : List ℕ → Bool) → none ≡ no_names → answered ≡ with_all none (in_answers names_in rules.hardware) →
+      filed ≡ with_all answered (flat_map names_in texts) → all ≡ with_all filed (in_all names_in env names) → all ≡ is_among (in_read names_in rules env texts names)
+  read-known names_in none answered filed all first second third last =
+      let b = in_answers names_in rules.hardware in
+      let t = flat_map names_in texts in
+      let d = in_all names_in env names in
       last ∙ ap (λ (s : List ℕ → Bool). with_all s d) (third ∙ ap (λ (s : List ℕ → Bool). with_all s t) (second ∙ ap (λ (s : List ℕ → Bool). with_all s b) first))
       ∙ with-append (with_all no_names b) t d ∙ with-append no_names b (t ++ d) ∙ all-among (b ++ (t ++ d))
+
+  pub foreseen-known : (none answered filed all : List ℕ → Bool) → none ≡ no_names → answered ≡ with_all none (in_answers (foreseen_in rules) rules.hardware) →
+      filed ≡ with_all answered (flat_map (foreseen_in rules) texts) → all ≡ with_all filed (in_all (foreseen_in rules) env names) → all ≡ (known_after rules env texts names).foreseen
+  foreseen-known none answered filed all first second third last = read-known (foreseen_in rules) none answered filed all first second third last
+
+  pub written-known : (none answered filed all : List ℕ → Bool) → none ≡ no_names → answered ≡ with_all none (in_answers (written_in rules) rules.hardware) →
+      filed ≡ with_all answered (flat_map (written_in rules) texts) → all ≡ with_all filed (in_all (written_in rules) env names) → all ≡ (known_after rules env texts names).written
+  written-known none answered filed all first second third last = read-known (written_in rules) none answered filed all first second third last
 
 -- ---- the names that are followed from some on, whatever their scripts name
 

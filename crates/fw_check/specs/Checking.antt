@@ -1,5 +1,5 @@
 -- What a check of an environment prints (docs/check.md).
-use Rattle.std.specs.Prelude.{◌≡◌, ◌≢◌, ◌⊎◌, ℕ, ◌==◌, suc, ◌&&◌, ◌||◌, Bool, true, false, not, List, [], ◌∷◌, ◌++◌, map, fold, slice_get, codes, Option, Some, None, unwrap_or, if◌then◌else◌}
+use Rattle.std.specs.Prelude.{◌≡◌, ◌≢◌, ℕ, ◌==◌, suc, ◌&&◌, ◌||◌, Bool, true, false, not, List, [], ◌∷◌, ◌++◌, map, fold, slice_get, codes, Option, Some, None, unwrap_or, if◌then◌else◌}
 use Rattle.std.specs.List.{AllByRecursion, flat_map}
 use Rattle.std.specs.FinMap.{entries, get}
 use Rattle.finding_kinds.specs.Choices.{Choice}
@@ -26,7 +26,7 @@ use Rattle.fw_check.specs.Menus.{script_of}
 use Rattle.fw_check.specs.Statements.{AreItemsOf}
 use Rattle.fw_check.specs.Following.{Followed, follow_fronts, is_among, is_set}
 use Rattle.fw_check.specs.Literals.{Front}
-use Rattle.fw_check.specs.Naming.{asked_in, foreseen_in, given_in, run_in}
+use Rattle.fw_check.specs.Naming.{asked_in, foreseen_in, given_in, run_in, written_in}
 use Rattle.fw_check.specs.Findings.{Finding, fault_sentence, found_at, return_findings, item_findings, Report, no_lines, report_end, with_alone, with_findings, with_script}
 use Rattle.fw_check.specs.Knowing.{Known}
 use Rattle.fw_check.specs.Lines.{Variable, Whole}
@@ -122,6 +122,7 @@ known_after given env texts visited = record {
   env = env;
   given = is_among (given.known ++ in_read (given_in given) given env texts visited);
   foreseen = is_among (in_read (foreseen_in given) given env texts visited);
+  written = is_among (in_read (written_in given) given env texts visited);
 }
 
 -- the names of the scripts whose statuses these texts of files and these scripts ask for

@@ -50,13 +50,14 @@ ComesTo given f scripts report final =
     × Reports f.env (Some (known_after given f.env (script_texts scripts) visited)) given (is_among asked) visited after final
 
 -- what is followed before any script is read
-abbrev pub follow_first : Given → Environment → List (List ℕ) → List FileScript → Followed
-follow_first given env names scripts = follow_texts given (script_texts scripts) (begin_with env (is_alone scripts) names)
+abbrev pub follow_first : Given → Environment → (all : Bool) → List (List ℕ) → List FileScript → Followed
+follow_first given env all names scripts =
+    follow_texts given (script_texts scripts) (begin_with given.hardware env all (is_alone scripts) names)
 
 -- a check of an environment from these names on, and of scripts in files over it
 abbrev pub Checks : Given → Environment → Choice → List (List ℕ) → List FileScript → Writers → Writers → ToolEnd → Type 0
 Checks given env choice names scripts old new end =
-    ((report : Report) × ComesTo given (follow_first given env names scripts) scripts (first_report choice env names) report
+    ((report : Report) × ComesTo given (follow_first given env choice.all names scripts) scripts (first_report choice env names) report
     × PrintsReport old new (with_whole (is_alone scripts) env report) end)
     ⊎ LacksMemory old new end
 

@@ -23,7 +23,7 @@ use Rattle.fw_check.specs.Foreign.{foreign_of, foreign_sentence, plain_of}
 use Rattle.fw_check.specs.JsonLines.{line_in}
 use Rattle.fw_check.specs.Lines.{Line, Subject}
 use Rattle.fw_check.specs.Literals.{Front, front_of, is_called, is_mark, is_shown, literal_of, substituted}
-use Rattle.fw_check.specs.Knowing.{Known, field_of, is_defined, is_lacking, is_undefined}
+use Rattle.fw_check.specs.Knowing.{Known, field_of, is_defined, is_lacking, is_undefined, is_written}
 use Rattle.fw_check.specs.Misuse.{misuse_of, misuse_sentence}
 use Rattle.fw_check.specs.Naming.{is_exit, is_run, is_test}
 use Rattle.fw_check.specs.Operators.{ATerm, Expected, after_word, is_broken, wrong_in}
@@ -350,10 +350,23 @@ refused_end Board = codes "` is an environment variable, which hides what is ass
 abbrev pub refused_sentence : Shell → List ℕ → List ℕ
 refused_sentence shell name = codes "`" ++ name ++ refused_end shell
 
+-- the same once a script has set it
+abbrev pub written_end : Shell → List ℕ
+written_end Strict = codes "` in the environment, where it can not be assigned"
+written_end Board = codes "` in the environment, which hides what is assigned"
+
+abbrev pub written_sentence : Shell → List ℕ → List ℕ
+written_sentence shell name = codes "a script sets `" ++ name ++ written_end shell
+
+abbrev pub hidden_findings : Shell → Option Known → ℕ → List ℕ → List Finding
+hidden_findings shell known count name =
+    if is_defined known name then found_at count kind.HiddenAssignment (refused_sentence shell name) ∷ []
+    else if is_written known name then found_at count kind.HiddenAssignment (written_sentence shell name) ∷ []
+    else []
+
 abbrev pub assigned_findings : Shell → Option Known → ℕ → Option (List ℕ) → List Finding
 assigned_findings shell known count None = []
-assigned_findings shell known count (Some name) =
-    if is_defined known name then found_at count kind.HiddenAssignment (refused_sentence shell name) ∷ [] else []
+assigned_findings shell known count (Some name) = hidden_findings shell known count name
 
 -- a board cuts the words of a `for` at spaces and newlines, in quotes too
 abbrev pub is_cut : ℕ → Bool

@@ -1,5 +1,5 @@
 -- Which scripts are read (docs/check.md, "Which scripts").
-use Rattle.std.specs.Prelude.{ℕ, ◌==◌, ◌&&◌, Bool, true, false, not, List, [], ◌∷◌, ◌++◌, length, map, fold, filter, nat_eq, codes, is_some, unwrap_or, if◌then◌else◌, refl}
+use Rattle.std.specs.Prelude.{ℕ, ◌==◌, ◌&&◌, Bool, true, false, not, List, [], ◌∷◌, ◌++◌, length, map, fold, filter, nat_eq, codes, is_some, unwrap_or, Option, if◌then◌else◌, refl}
 use Rattle.std.specs.List.{list_any, starts_with}
 use Rattle.std.specs.Ordering.{eq_by_cmp}
 use Rattle.std.specs.Coded.{Coded, code_by, coded×, coded_ℕ, coded_list}
@@ -8,7 +8,9 @@ use Rattle.std.specs.FinMap.{entries, get}
 use Rattle.memchr.specs.Find.{is_byte}
 use Rattle.envimg_core.specs.Environment.{Environment, bytes_cmp}
 use Rattle.fw_check.specs.Literals.{Front}
+use Rattle.hush_commands.specs.Hardware.{Hardware}
 use Rattle.fw_check.specs.Menus.{is_entry_name, menu_front}
+use Rattle.fw_check.specs.ScriptValues.{looks_like_script}
 
 abbrev pub is_among : List (List ℕ) → List ℕ → Bool
 is_among names name = list_any (eq_by_cmp bytes_cmp name) names
@@ -77,12 +79,32 @@ follow_menu f more = record { env = f.env; names = fold (with_entry f.env) f.nam
 abbrev pub follow_entries : Followed → Followed
 follow_entries f = follow_menu f (names_with menu_front (names_of f.env))
 
--- what a check begins with: the names that it is given; without any the usual ones and the entries of a boot menu, unless the scripts of
--- files are checked
+-- the usual names and the entries of a boot menu
+abbrev pub follow_usual : Followed → Followed
+follow_usual f = follow_entries (follow_names f usual_names)
+
+abbrev pub with_script_name : Option Hardware → Environment → List (List ℕ) → List ℕ → List (List ℕ)
+with_script_name h env names name = if looks_like_script h env name then with_name env names name else names
+
+-- the variables among these names whose values look like scripts are followed
+abbrev pub follow_scripts_of : Option Hardware → Followed → List (List ℕ) → Followed
+follow_scripts_of h f more = record { env = f.env; names = fold (with_script_name h f.env) f.names more }
+
+-- all of the environment, in order of names
+abbrev pub follow_scripts : Option Hardware → Followed → Followed
+follow_scripts h f = follow_scripts_of h f (names_of f.env)
+
+-- what a check begins with if not all is looked at: the names that it is given; without any the usual ones and the entries of a boot menu,
+-- unless the scripts of files are checked
 abbrev pub begin_from : Followed → (alone : Bool) → List (List ℕ) → Followed
 begin_from f false [] = f
-begin_from f true [] = follow_entries (follow_names f usual_names)
+begin_from f true [] = follow_usual f
 begin_from f alone (name ∷ names) = follow_names f (name ∷ names)
 
-abbrev pub begin_with : Environment → (alone : Bool) → List (List ℕ) → Followed
-begin_with env alone names = begin_from (record { env = env; names = [] }) alone names
+-- and if all is
+abbrev pub begin_all : Option Hardware → Followed → (all alone : Bool) → List (List ℕ) → Followed
+begin_all h f false alone names = begin_from f alone names
+begin_all h f true alone names = follow_scripts h (follow_usual (follow_names f names))
+
+abbrev pub begin_with : Option Hardware → Environment → (all alone : Bool) → List (List ℕ) → Followed
+begin_with h env all alone names = begin_all h (record { env = env; names = [] }) all alone names

@@ -8,15 +8,21 @@ use Rattle.hush_words.specs.Words.Atom.{Plain, Quoted, Mark, Value, Status}
 use Rattle.fw_check.specs.Literals.{is_word_of}
 
 -- what is known if there is an environment: it, and whether one of the scripts checked gives a name to
--- something, or foresees it
+-- something, foresees it, or writes its variable
 pub record Known : Type 0 where
   pub env : Environment
   pub given : List ℕ → Bool
   pub foreseen : List ℕ → Bool
+  pub written : List ℕ → Bool
 
 abbrev pub is_defined : Option Known → List ℕ → Bool
 is_defined None name = false
 is_defined (Some known) name = is_some (get known.env name)
+
+-- a script writes its variable
+abbrev pub is_written : Option Known → List ℕ → Bool
+is_written None name = false
+is_written (Some known) name = known.written name
 
 -- no variable of this name is there, and none is foreseen
 abbrev pub is_undefined : Option Known → List ℕ → Bool

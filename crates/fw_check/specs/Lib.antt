@@ -7,6 +7,7 @@ pub mod Called
 pub mod Naming
 pub mod Targets
 pub mod Menus
+pub mod ScriptValues
 pub mod Following
 pub mod Operators
 pub mod Commands

@@ -17,7 +17,7 @@ abbrev pub front_view : Front → literals.Front
 front_view front = record { bytes = front.bytes.items; whole = front.is_whole }
 
 abbrev pub known_view : Variables → Known
-known_view v = record { env = v.vars.now.env; given = set_of v.names.now.given; foreseen = set_of v.names.now.foreseen }
+known_view v = record { env = v.vars.now.env; given = set_of v.names.now.given; foreseen = set_of v.names.now.foreseen; written = set_of v.names.now.written }
 
 abbrev pub known_in : Lookups → Option Known
 known_in l = option_map known_view l.variables

@@ -124,3 +124,40 @@ foreseen_names given (Binds s name words) = []
 -- those that the script of a text foresees
 abbrev pub foreseen_in : Given → List ℕ → List (List ℕ)
 foreseen_in given text = flat_map (foreseen_names given) (statements_in (bodies_of given.shell) false text)
+
+-- ---- names whose variables are written: a command sets them to a value
+
+-- the first argument of several, if it is without a substitution; without a second one `setenv` deletes
+abbrev pub first_of_several : List (List Atom) → List (List ℕ)
+first_of_several [] = []
+first_of_several (word ∷ []) = []
+first_of_several (word ∷ value ∷ words) = option_to_list (literal_of word)
+
+abbrev pub written_by_set : List (List Atom) → List (List ℕ)
+written_by_set [] = []
+written_by_set (word ∷ words) = if is_called (codes "-f") (literal_of word) then first_of_several words else first_of_several (word ∷ words)
+
+abbrev pub written_by_env : Shell → List (List Atom) → List (List ℕ)
+written_by_env shell [] = []
+written_by_env shell (word ∷ words) = if is_after_env shell 2 (codes "set") (literal_of word) then written_by_set words else []
+
+-- by a command of this name with these arguments
+abbrev pub written_as : Shell → (called : Option (List ℕ)) → List (List Atom) → List (List ℕ)
+written_as shell called words =
+    if is_called (codes "setenv") called then written_by_set words
+    else if is_called (codes "env") called then written_by_env shell words
+    else if is_calculation called then first_of_several words
+    else []
+
+abbrev pub written_by : Given → List (List Atom) → List (List ℕ)
+written_by given [] = []
+written_by given (word ∷ words) = written_as given.shell (called_by given word) words
+
+abbrev pub written_names : Given → Statement → List (List ℕ)
+written_names given (Calls s words) = written_by given words
+written_names given (Assigns s name value) = []
+written_names given (Binds s name words) = []
+
+-- those that the script of a text writes
+abbrev pub written_in : Given → List ℕ → List (List ℕ)
+written_in given text = flat_map (written_names given) (statements_in (bodies_of given.shell) false text)

@@ -1,12 +1,14 @@
 //! The names whose scripts are checked.
 ghost use Rattle.std.specs.Prelude.{◌≡◌, ◌<◌, ◌∷◌, [], IfOk, OnOk, OnSome, option_map, slice_get, map};
-ghost use Rattle.fw_check.specs.Following.{follow_entries, follow_front, follow_menu, follow_names, is_among, names_of, names_with};
-ghost use Rattle.fw_check.specs.Looking.{front_view};
+ghost use Rattle.fw_check.specs.Following.{follow_entries, follow_front, follow_menu, follow_names, follow_scripts, follow_scripts_of, is_among, names_of, names_with};
+ghost use Rattle.fw_check.specs.Looking.{front_view, hardware_in};
 
 use crate::followed::Names;
 use crate::literals::Front;
+use crate::lookups::Lookups;
 use crate::menu::{MENU, is_entry};
 use crate::name_set::NameSet;
+use crate::script_values::looks_like_script;
 use crate::sorted_names::SortedNames;
 use envvars_core::Vars;
 use std::alloc::{AllocError, Global};
@@ -113,6 +115,28 @@ impl<'v, 's> Followed<'v, 's> {
     {
         if is_entry(self.vars, name) {
             self.follow_name(alloc, name)
+        } else {
+            Ok(())
+        }
+    }
+
+    /// Follows the variables whose values look like scripts, in order of names.
+    pub(crate) fn follow_scripts(&mut self, lookups: &Lookups<'_>) -> Result<(), AllocError>
+        ensures { OnOk result (self.new ≡ follow_scripts (hardware_in lookups.now) self.old) }
+    {
+        let sorted = self.sorted;
+        for name in sorted.all() {
+            self.follow_script(lookups, name)?;
+        }
+        Ok(())
+    }
+
+    /// Follows a name, if it is that of such a variable.
+    fn follow_script(&mut self, lookups: &Lookups<'_>, name: &[u8]) -> Result<(), AllocError>
+        ensures { OnOk result (self.new ≡ follow_scripts_of (hardware_in lookups.now) self.old (name.now ∷ [])) }
+    {
+        if looks_like_script(lookups.rules.hardware, self.vars, name) {
+            self.follow_name(lookups.alloc, name)
         } else {
             Ok(())
         }

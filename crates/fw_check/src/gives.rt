@@ -1,11 +1,11 @@
-//! The names that a script gives to something, and those that it foresees.
+//! The names that a script gives to something, those that it foresees, and those whose variables it writes.
 ghost use Rattle.std.specs.Prelude.{◌≡◌, OnOk, map, option_map};
 ghost use Rattle.std.specs.List.{flat_map};
 ghost use Rattle.hush_syntax.specs.Trees.{name_in, words_in};
 ghost use Rattle.hush_words.specs.Parts.{word_atoms};
 ghost use Rattle.fw_check.specs.Looking.{rules_in};
 ghost use Rattle.fw_check.specs.NameSets.{also, set_of, with_all};
-ghost use Rattle.fw_check.specs.Naming.{argument_names, foreseen_by, foreseen_names, given_by, given_names, given_or};
+ghost use Rattle.fw_check.specs.Naming.{argument_names, foreseen_by, foreseen_names, given_by, given_names, given_or, written_by, written_names};
 ghost use Rattle.fw_check.specs.Statements.{statement_of};
 
 use crate::foreseen::foresee;
@@ -14,10 +14,11 @@ use crate::literals::{is_called, literal, name_in};
 use crate::lookups::Lookups;
 use crate::name_set::{NameSet, ScriptNames};
 use crate::substitutions::gather_substitutions;
+use crate::written::write_names;
 use hush_syntax::{Text, Word};
 use std::alloc::{AllocError, Global};
 
-/// Adds the names that these items give and foresee.
+/// Adds the names that these items give, foresee and write.
 pub(crate) fn gather_items(
     lookups: &Lookups<'_>,
     text: &Text,
@@ -28,6 +29,8 @@ pub(crate) fn gather_items(
         (flat_map (given_names (rules_in lookups.now)) (map (statement_of text.now) items.now))) }
     ensures foreseen { OnOk result (set_of names.new.foreseen ≡ with_all (set_of names.old.foreseen)
         (flat_map (foreseen_names (rules_in lookups.now)) (map (statement_of text.now) items.now))) }
+    ensures written { OnOk result (set_of names.new.written ≡ with_all (set_of names.old.written)
+        (flat_map (written_names (rules_in lookups.now)) (map (statement_of text.now) items.now))) }
 {
     for item in items {
         gather_item(lookups, text, *item, names)?;
@@ -46,6 +49,8 @@ fn gather_item(
         (given_names (rules_in lookups.now) (statement_of text.now item.entry))) }
     ensures foreseen { OnOk result (set_of names.new.foreseen ≡ with_all (set_of names.old.foreseen)
         (foreseen_names (rules_in lookups.now) (statement_of text.now item.entry))) }
+    ensures written { OnOk result (set_of names.new.written ≡ with_all (set_of names.old.written)
+        (written_names (rules_in lookups.now) (statement_of text.now item.entry))) }
 {
     match item {
         Item::Call(_, words) => gather_call(lookups, text, words, names),
@@ -73,6 +78,8 @@ fn gather_call(
         (given_by (rules_in lookups.now) (words_in text.now words.now))) }
     ensures foreseen { OnOk result (set_of names.new.foreseen ≡ with_all (set_of names.old.foreseen)
         (foreseen_by (rules_in lookups.now) (words_in text.now words.now))) }
+    ensures written { OnOk result (set_of names.new.written ≡ with_all (set_of names.old.written)
+        (written_by (rules_in lookups.now) (words_in text.now words.now))) }
 {
     if words.is_empty() {
         return Ok(());
@@ -80,7 +87,8 @@ fn gather_call(
     let called = lookups.called(text, words[0])?;
     let tests = is_called(&called, b"test");
     gather_words(lookups.alloc, text, tests, &words[1..], &mut names.given)?;
-    foresee(lookups, text, &called, &words[1..], &mut names.foreseen)
+    foresee(lookups, text, &called, &words[1..], &mut names.foreseen)?;
+    write_names(lookups, text, &called, &words[1..], &mut names.written)
 }
 
 /// Adds the names that its arguments give.

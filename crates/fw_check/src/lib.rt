@@ -3,7 +3,7 @@
 //!
 //! To read in this order: settings, items, literals, name_set, substitutions, commands, rules, lookups, constants; lines, json_lines, findings,
 //! summary; operators, foreign, misuse, undefined_names, differences, statuses, command_names, run_targets, statements, script_check; followed, sorted_names, menu,
-//! following, run_names, foreseen, gives, text_names; starts, reading, asking, typed_values, visits; file_checks.
+//! script_values, following, run_names, foreseen, written, gives, text_names; starts, reading, asking, typed_values, visits; file_checks.
 #![tactic(auto)]
 
 mod asking;
@@ -32,6 +32,7 @@ mod rules;
 mod run_names;
 mod run_targets;
 mod script_check;
+mod script_values;
 mod settings;
 mod sorted_names;
 mod starts;
@@ -43,6 +44,7 @@ mod text_names;
 mod typed_values;
 mod undefined_names;
 mod visits;
+mod written;
 
 pub use file_checks::{FileScript, check_files};
 pub use rules::{Hardware, Rules};

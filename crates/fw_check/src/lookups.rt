@@ -1,7 +1,7 @@
 //! What the names in a script are looked up in.
 ghost use Rattle.std.specs.Prelude.{◌≡◌, Some, IfOk, option_copied, option_map};
 ghost use Rattle.fw_check.specs.Commands.{command_fault, has_stand_in, is_unknown};
-ghost use Rattle.fw_check.specs.Knowing.{constant, is_defined, is_lacking, is_undefined};
+ghost use Rattle.fw_check.specs.Knowing.{constant, is_defined, is_lacking, is_undefined, is_written};
 ghost use Rattle.hush_commands.specs.CommandNames.{name_among};
 ghost use Rattle.hush_words.specs.Parts.{word_atoms};
 ghost use Rattle.fw_check.specs.Called.{called_by, is_after_env};
@@ -20,7 +20,7 @@ use std::alloc::{AllocError, Global};
 #[derive(Clone, Copy)]
 pub(crate) struct Variables<'k> {
     pub(crate) vars: &'k Vars,
-    /// Which names the scripts give and foresee.
+    /// Which names the scripts give, foresee and write.
     pub(crate) names: &'k ScriptNames,
 }
 
@@ -171,6 +171,16 @@ impl<'k> Lookups<'k> {
     {
         match self.variables {
             Some(variables) => variables.misses(name),
+            None => false,
+        }
+    }
+
+    /// Whether a script sets a variable of this name.
+    pub(crate) fn is_written(&self, name: &[u8]) -> bool
+        ensures { result ≡ is_written (known_in self.now) name.now }
+    {
+        match self.variables {
+            Some(variables) => variables.names.written.has(name),
             None => false,
         }
     }

@@ -22,7 +22,7 @@ pub(crate) fn is_entry(vars: &Vars, name: &[u8]) -> bool
 }
 
 /// Whether it is the name of an entry.
-fn is_entry_name(name: &[u8]) -> bool
+pub(crate) fn is_entry_name(name: &[u8]) -> bool
     ensures { result ≡ is_entry_name name.now }
 {
     let (front, back) = name.split_at(MENU.len().min(name.len()));

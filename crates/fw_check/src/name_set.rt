@@ -18,6 +18,8 @@ pub(crate) struct ScriptNames {
     pub(crate) given: NameSet,
     /// Those whose variables are set, tested or asked for.
     pub(crate) foreseen: NameSet,
+    /// Those whose variables are set to a value.
+    pub(crate) written: NameSet,
 }
 
 impl ScriptNames {
@@ -25,10 +27,12 @@ impl ScriptNames {
     pub(crate) fn new(alloc: Global) -> ScriptNames
         ensures given { set_of result.given ≡ no_names }
         ensures foreseen { set_of result.foreseen ≡ no_names }
+        ensures written { set_of result.written ≡ no_names }
     {
         ScriptNames {
             given: NameSet::new(alloc),
             foreseen: NameSet::new(alloc),
+            written: NameSet::new(alloc),
         }
     }
 }

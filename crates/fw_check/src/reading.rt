@@ -7,7 +7,7 @@ ghost use Rattle.fw_check.specs.FileChecks.{scripts_view, script_texts};
 ghost use Rattle.fw_check.specs.Following.{follow_fronts};
 ghost use Rattle.fw_check.specs.Looking.{hardware_in, rules_in};
 ghost use Rattle.fw_check.specs.NameSets.{set_of, with_all};
-ghost use Rattle.fw_check.specs.Naming.{foreseen_in, given_in, run_in};
+ghost use Rattle.fw_check.specs.Naming.{foreseen_in, given_in, run_in, written_in};
 
 use crate::file_checks::FileScript;
 use crate::following::Followed;
@@ -20,7 +20,7 @@ use hush_commands::{Reply, Rule};
 use std::alloc::{AllocError, Global};
 
 /// Follows what the texts run that answer calls, what these of files run, what the scripts of these names run, and what theirs
-/// run. The answer is which names all these texts and scripts give and foresee; those that the board's own code sets are given.
+/// run. The answer is which names all these texts and scripts give, foresee and write; those that the board's own code sets are given.
 pub(crate) fn read_all(
     lookups: &Lookups<'_>,
     vars: &Vars,
@@ -34,6 +34,8 @@ pub(crate) fn read_all(
         ≡ (known_after (rules_in lookups.now) vars.now.env (script_texts (scripts_view scripts.now)) names.new.names).given) }
     ensures foreseen { IfOk result (λ gathered. set_of gathered.foreseen
         ≡ (known_after (rules_in lookups.now) vars.now.env (script_texts (scripts_view scripts.now)) names.new.names).foreseen) }
+    ensures written { IfOk result (λ gathered. set_of gathered.written
+        ≡ (known_after (rules_in lookups.now) vars.now.env (script_texts (scripts_view scripts.now)) names.new.names).written) }
 {
     let mut gathered = ScriptNames::new(lookups.alloc);
     add_known(lookups.alloc, lookups.rules.known, &mut gathered.given)?;
@@ -43,7 +45,7 @@ pub(crate) fn read_all(
     Ok(gathered)
 }
 
-/// Follows what the scripts of files run, and adds the names that they give and foresee.
+/// Follows what the scripts of files run, and adds the names that they give, foresee and write.
 fn follow_files(
     lookups: &Lookups<'_>,
     scripts: &[FileScript<'_>],
@@ -56,6 +58,8 @@ fn follow_files(
         (flat_map (given_in (rules_in lookups.now)) (script_texts (scripts_view scripts.now)))) }
     ensures foreseen { OnOk result (set_of gathered.new.foreseen ≡ with_all (set_of gathered.old.foreseen)
         (flat_map (foreseen_in (rules_in lookups.now)) (script_texts (scripts_view scripts.now)))) }
+    ensures written { OnOk result (set_of gathered.new.written ≡ with_all (set_of gathered.old.written)
+        (flat_map (written_in (rules_in lookups.now)) (script_texts (scripts_view scripts.now)))) }
 {
     for script in scripts {
         follow_text(lookups, &script.text, names, gathered)?;
@@ -73,7 +77,7 @@ fn add_known(alloc: Global, known: &[Vec<u8>], given: &mut NameSet) -> Result<()
     Ok(())
 }
 
-/// Follows what the texts run that answer calls, and adds the names that they give and foresee.
+/// Follows what the texts run that answer calls, and adds the names that they give, foresee and write.
 fn follow_answers(
     lookups: &Lookups<'_>,
     names: &mut Followed<'_, '_>,
@@ -85,6 +89,8 @@ fn follow_answers(
         ≡ with_all (set_of gathered.old.given) (in_answers (given_in (rules_in lookups.now)) (hardware_in lookups.now))) }
     ensures foreseen { OnOk result (set_of gathered.new.foreseen
         ≡ with_all (set_of gathered.old.foreseen) (in_answers (foreseen_in (rules_in lookups.now)) (hardware_in lookups.now))) }
+    ensures written { OnOk result (set_of gathered.new.written
+        ≡ with_all (set_of gathered.old.written) (in_answers (written_in (rules_in lookups.now)) (hardware_in lookups.now))) }
 {
     match lookups.rules.hardware {
         Some(hardware) => follow_rules(lookups, hardware.board.rules(), names, gathered),
@@ -105,6 +111,8 @@ fn follow_rules(
         (flat_map (λ rule. in_reply (given_in (rules_in lookups.now)) rule.reply) rules.now)) }
     ensures foreseen { OnOk result (set_of gathered.new.foreseen ≡ with_all (set_of gathered.old.foreseen)
         (flat_map (λ rule. in_reply (foreseen_in (rules_in lookups.now)) rule.reply) rules.now)) }
+    ensures written { OnOk result (set_of gathered.new.written ≡ with_all (set_of gathered.old.written)
+        (flat_map (λ rule. in_reply (written_in (rules_in lookups.now)) rule.reply) rules.now)) }
 {
     for rule in rules {
         follow_reply(lookups, &rule.reply, names, gathered)?;
@@ -125,6 +133,8 @@ fn follow_reply(
         ≡ with_all (set_of gathered.old.given) (in_reply (given_in (rules_in lookups.now)) reply.now)) }
     ensures foreseen { OnOk result (set_of gathered.new.foreseen
         ≡ with_all (set_of gathered.old.foreseen) (in_reply (foreseen_in (rules_in lookups.now)) reply.now)) }
+    ensures written { OnOk result (set_of gathered.new.written
+        ≡ with_all (set_of gathered.old.written) (in_reply (written_in (rules_in lookups.now)) reply.now)) }
 {
     match reply {
         Reply::Status { .. } => Ok(()),
@@ -147,6 +157,8 @@ fn follow_all(
         ≡ with_all (set_of gathered.old.given) (in_all (given_in (rules_in lookups.now)) vars.now.env names.new.names)) }
     ensures foreseen { OnOk result (set_of gathered.new.foreseen
         ≡ with_all (set_of gathered.old.foreseen) (in_all (foreseen_in (rules_in lookups.now)) vars.now.env names.new.names)) }
+    ensures written { OnOk result (set_of gathered.new.written
+        ≡ with_all (set_of gathered.old.written) (in_all (written_in (rules_in lookups.now)) vars.now.env names.new.names)) }
 {
     let mut index = 0;
     while let Some(name) = names.copy(lookups.alloc, index)? {
@@ -156,7 +168,7 @@ fn follow_all(
     Ok(())
 }
 
-/// Follows what the script of a variable runs, and adds the names that it gives and foresees.
+/// Follows what the script of a variable runs, and adds the names that it gives, foresees and writes.
 fn follow_variable(
     lookups: &Lookups<'_>,
     vars: &Vars,
@@ -170,6 +182,8 @@ fn follow_variable(
         ≡ with_all (set_of gathered.old.given) (given_in (rules_in lookups.now) (script_in vars.now.env name.now))) }
     ensures foreseen { OnOk result (set_of gathered.new.foreseen
         ≡ with_all (set_of gathered.old.foreseen) (foreseen_in (rules_in lookups.now) (script_in vars.now.env name.now))) }
+    ensures written { OnOk result (set_of gathered.new.written
+        ≡ with_all (set_of gathered.old.written) (written_in (rules_in lookups.now) (script_in vars.now.env name.now))) }
 {
     let text = script(lookups.alloc, vars, name)?;
     follow_text(lookups, &text, names, gathered)

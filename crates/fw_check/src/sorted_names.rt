@@ -38,6 +38,13 @@ impl<'v> SortedNames<'v> {
         Ok(SortedNames { names })
     }
 
+    /// All of them.
+    pub(crate) fn all(&self) -> &[&'v [u8]]
+        ensures { map (λ n. n.now) result.now ≡ self.now }
+    {
+        self.names.as_slice()
+    }
+
     /// Those that begin so.
     pub(crate) fn beginning(&self, front: &[u8]) -> &[&'v [u8]]
         ensures { map (λ n. n.now) result.now ≡ names_with front.now self.now }

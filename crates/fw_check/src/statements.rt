@@ -3,7 +3,7 @@ ghost use Rattle.std.specs.Prelude.{◌≡◌, ◌++◌, [], if◌then◌else◌
 ghost use Rattle.std.specs.List.{flat_map};
 ghost use Rattle.hush_words.specs.Parts.{word_atoms};
 ghost use Rattle.fw_check.specs.Expecting.{suspect_view};
-ghost use Rattle.fw_check.specs.Findings.{assigned_findings, call_findings, foreign_findings, is_free, item_findings, operator_end, refused_end, test_findings, wrong_findings};
+ghost use Rattle.fw_check.specs.Findings.{assigned_findings, call_findings, foreign_findings, hidden_findings, is_free, item_findings, operator_end, refused_end, test_findings, written_end, wrong_findings};
 ghost use Rattle.fw_check.specs.Found.{found_more};
 ghost use Rattle.fw_check.specs.Literals.{literal_of};
 ghost use Rattle.fw_check.specs.Looking.{known_in, rules_in};
@@ -203,19 +203,30 @@ fn check_assigned(
     ensures { OnOk result (findings.new ≡ found_more findings.old
         (assigned_findings lookups.now.rules.shell (known_in lookups.now) word.start (literal_of (word_atoms text.now word)))) }
 {
-    let Some(name) = literal(lookups.alloc, text, word)? else {
-        return Ok(());
-    };
-    if lookups.is_defined(&name) {
-        findings.add(
-            word.start as usize,
-            FindingKind::HiddenAssignment,
-            b"`",
-            &name,
-            refused_end(lookups.rules.shell),
-        )?;
+    match literal(lookups.alloc, text, word)? {
+        Some(name) => check_hidden(lookups, word.start as usize, &name, findings),
+        None => Ok(()),
     }
-    Ok(())
+}
+
+/// Adds the name that is assigned, if the environment holds its variable, or a script sets it.
+fn check_hidden(
+    lookups: &Lookups<'_>,
+    count: usize,
+    name: &[u8],
+    findings: &mut Findings<'_, '_>,
+) -> Result<(), AllocError>
+    ensures { OnOk result (findings.new ≡ found_more findings.old
+        (hidden_findings lookups.now.rules.shell (known_in lookups.now) count name.now)) }
+{
+    let (shell, kind) = (lookups.rules.shell, FindingKind::HiddenAssignment);
+    if lookups.is_defined(name) {
+        findings.add(count, kind, b"`", name, refused_end(shell))
+    } else if lookups.is_written(name) {
+        findings.add(count, kind, b"a script sets `", name, written_end(shell))
+    } else {
+        Ok(())
+    }
 }
 
 /// After the name of such a variable.
@@ -225,5 +236,15 @@ fn refused_end(shell: Shell) -> &'static [u8]
     match shell {
         Shell::Strict => b"` is an environment variable, so it can not be assigned",
         Shell::Board => b"` is an environment variable, which hides what is assigned",
+    }
+}
+
+/// What is said of one that a script sets.
+fn written_end(shell: Shell) -> &'static [u8]
+    ensures { result.now ≡ written_end shell }
+{
+    match shell {
+        Shell::Strict => b"` in the environment, where it can not be assigned",
+        Shell::Board => b"` in the environment, which hides what is assigned",
     }
 }

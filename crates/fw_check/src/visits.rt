@@ -34,7 +34,8 @@ const UNDEFINED: &[u8] = b"no variable of this name is defined";
 const NONE: &[u8] = b"there is no script to look at";
 
 /// Prints on `output` what is found in the scripts of an environment by these rules: in those of the given names, without
-/// names in those of `bootcmd`, `altbootcmd`, `preboot` and the entries of a boot menu, and in each that one of them, or
+/// names in those of `bootcmd`, `altbootcmd`, `preboot` and the entries of a boot menu, if all is looked at also in these and in each whose
+/// value looks like a script, and in each that one of them, or
 /// a text that answers a call, runs: by an argument without a substitution, or by one that begins as its name does. Each
 /// is checked once, in the order in which they are met. If there are scripts of files, these are checked before, as what the environment's
 /// scripts are run by, and begin the check in place of the usual names. With hardware a command that isn't there is an error. So is a
@@ -127,19 +128,25 @@ fn check_all<'c, 'k>(
     scripts: &[FileScript<'_>],
 ) -> Result<Report<'c>, AllocError>
     ensures { IfOk result (λ report. ComesTo (rules_view rules.entry)
-        (follow_first (rules_view rules.entry) vars.now.env (map (λ n. n.now) names.now) (scripts_view scripts.now))
+        (follow_first (rules_view rules.entry) vars.now.env choice.entry.all (map (λ n. n.now) names.now) (scripts_view scripts.now))
         (scripts_view scripts.now)
         (first_report (choice_view choice.entry) vars.now.env (map (λ n. n.now) names.now)) report) }
 {
     let report = report_given(alloc, choice, vars, names)?;
     let sorted = SortedNames::of(alloc, vars)?;
     let mut visited = Followed::new(alloc, vars, &sorted);
-    follow_first(alloc, is_alone(scripts), names, &mut visited)?;
     let names_alone = Lookups {
         alloc,
         rules,
         variables: None,
     };
+    follow_first(
+        &names_alone,
+        choice.all,
+        is_alone(scripts),
+        names,
+        &mut visited,
+    )?;
     let gathered = read_all(&names_alone, vars, scripts, &mut visited)?;
     let lookups = Lookups {
         variables: Some(Variables {

@@ -1,5 +1,4 @@
 mod ChangedLemmas
-mod CopyReportLemmas
 mod DefaultsLemmas
 pub mod FileLemmas
 mod OpeningLemmas

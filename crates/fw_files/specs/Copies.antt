@@ -1,5 +1,5 @@
 -- Copies in devices (docs/tools.md, "Subcommands over files").
-use Rattle.std.specs.Prelude.{◌≡◌, ◌⊎◌, ℕ, ◌+◌, ◌<◌, Bool, true, false, ◌&&◌, nat_lt, string_bytes, codes, List, [], ◌∷◌, ◌++◌, length, take, drop, Option, Some, None, option_map, Result, Ok, Err, if◌then◌else◌, ⊤}
+use Rattle.std.specs.Prelude.{◌≡◌, ℕ, ◌+◌, ◌<◌, Bool, true, false, ◌&&◌, nat_lt, string_bytes, codes, List, [], ◌∷◌, ◌++◌, length, take, drop, Option, Some, None, option_map, Result, Ok, Err, if◌then◌else◌, ⊤}
 use Rattle.std.specs.Str.{bytes_eq}
 use Rattle.device_files.specs.Calls.{IsHonest, faults_of}
 use Rattle.device_files.specs.declared.record.Call.{Call}
@@ -10,7 +10,6 @@ use Rattle.envcfg_core.specs.declared.config.Config.{Config}
 use Rattle.envcfg_core.specs.declared.place.Place.{Place}
 use Rattle.envcfg_core.specs.Place.{start_of}
 use Rattle.fw_engines.specs.Misplaced.{is_other_data}
-use Rattle.fw_engines.specs.Streams.{AppendsFront}
 use Rattle.fw_engines.specs.Ways.{is_good}
 use Rattle.fw_files.specs.declared.copies.ReadCopy.{ReadCopy}
 use Rattle.fw_files.specs.declared.file_fault.FileFault.{FileFault}
@@ -83,10 +82,3 @@ warning_of source writes_first writes_second = warning_by source.geometry source
 -- the same for the copies of a session that changed
 abbrev pub warned_of : Source → Stored → List ℕ
 warned_of source stored = warning_of source (first_differs source stored) (second_differs source.second stored.second)
-
--- such a warning, or none, is printed as far as standard error takes it
-abbrev pub IsWarning : List ℕ → Type 0
-IsWarning text = (text ≡ []) ⊎ ((text ≡ over_data (codes "first")) ⊎ (text ≡ over_data (codes "second")))
-
-abbrev pub MayWarn : Option (List ℕ) → Option (List ℕ) → Type 0
-MayWarn old new = (text : List ℕ) × IsWarning text × AppendsFront old new text

@@ -1,7 +1,6 @@
 -- What the public calls promise.
 pub mod BareLines
 pub mod Copies
-pub mod CopyReport
 pub mod FileTexts
 pub mod Files
 pub mod ForeignTexts
@@ -9,8 +8,7 @@ pub mod KnownNames
 pub mod Locks
 pub mod Misread
 pub mod Opening
-pub mod Reasons
-pub mod Said
 pub mod Source
+pub mod Stops
 pub mod WantedCopy
 pub mod WrittenBack

@@ -1,12 +1,11 @@
 -- What writes copies spares those that are good in another way (docs/tools.md, "A good copy is not written over").
-use Rattle.std.specs.Prelude.{◌≡◌, ◌⊎◌, ℕ, Bool, true, false, List, ◌++◌, Option, Some, None}
+use Rattle.std.specs.Prelude.{◌≡◌, ℕ, Bool, true, false, List, ◌++◌, Option, Some, None, ⊤}
 use Rattle.envimg_core.specs.Geometry.{Shape}
 use Rattle.envimg_core.specs.declared.choice.Choice.{Choice}
 use Rattle.envimg_core.specs.declared.choice.Choice.TheVariants.{First, Second, Neither}
 use Rattle.fw_engines.specs.Misread.{misread}
-use Rattle.fw_engines.specs.Streams.{AppendsFront}
-use Rattle.fw_engines.specs.declared.tool_end.StreamFault.TheVariants.{Memory}
-use Rattle.fw_files.specs.Said.{message_of}
+use Rattle.fw_files.specs.declared.stop.Stop.{Stop}
+use Rattle.fw_files.specs.declared.stop.Stop.TheVariants.{Memory, Misread}
 
 -- what a device holds from a copy's place on: the copy, and what follows it
 abbrev pub IsContinued : (copy : List ℕ) → (found : List ℕ) → Type 0
@@ -22,10 +21,11 @@ IsMisread shape first second line =
     (found : List ℕ) × (found_second : Option (List ℕ)) × IsContinued first found × IsSecondContinued second found_second
     × (misread shape found found_second ≡ line)
 
--- it is printed, or that memory ran out
-abbrev pub SaysMisread : Shape → (first : List ℕ) → (second : Option (List ℕ)) → Option (List ℕ) → Option (List ℕ) → Type 0
-SaysMisread shape first second old new =
-    ((line : List ℕ) × IsMisread shape first second (Some line) × AppendsFront old new line) ⊎ AppendsFront old new (message_of Memory)
+-- why these copies are not written over: by that line, or memory ran out
+abbrev pub IsMisreadStop : Shape → (first : List ℕ) → (second : Option (List ℕ)) → Stop → Type 0
+IsMisreadStop shape first second (Misread line) = IsMisread shape first second (Some line.items)
+IsMisreadStop shape first second Memory = ⊤
+IsMisreadStop shape first second stop = ⊥
 
 -- if copies are to be spared and none is good, none is good in another way
 abbrev pub Spares : Choice → Bool → Shape → (first : List ℕ) → (second : Option (List ℕ)) → Type 0

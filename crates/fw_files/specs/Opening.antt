@@ -1,19 +1,21 @@
 -- A session over copies, just opened (docs/tools.md, "Subcommands over files").
-use Rattle.std.specs.Prelude.{◌≡◌, ℕ, Bool, false, List, replicate, Option, Some, None, is_some}
+use Rattle.std.specs.Prelude.{◌≡◌, ℕ, Bool, false, List, replicate, Option, Some, None, is_some, option_map}
 use Rattle.env_session.specs.Session.{Held, opened}
 use Rattle.envimg_core.specs.Geometry.{Shape, room_of}
+use Rattle.envimg_core.specs.State.{state_of}
 use Rattle.envimg_core.specs.declared.geometry.Layout.TheVariants.{Single}
 use Rattle.envimg_core.specs.declared.geometry.Order.{Order}
 use Rattle.envvars_core.specs.Variables.{Contents}
 use Rattle.fw_arguments.specs.Calls.{Defaults}
 use Rattle.fw_arguments.specs.declared.wanted_copy.WantedCopy.{WantedCopy}
-use Rattle.fw_engines.specs.Streams.{AppendsFront}
 use Rattle.fw_files.specs.Misread.{Spares}
 use Rattle.envcfg_core.specs.Config.{Settings}
 use Rattle.fw_files.specs.FileTexts.{Holds}
-use Rattle.fw_files.specs.Source.{AreDefaultsOf, AreSettingsAt, IsTaken, lacks_copy, second_bytes, shape_of, warned}
+use Rattle.fw_files.specs.Source.{AreDefaultsOf, AreSettingsAt, IsTaken, lacks_copy, second_bytes, shape_of}
 use Rattle.fw_files.specs.WantedCopy.{first_for, refusal_of, second_for}
 use Rattle.fw_files.specs.declared.source.Source.{Source}
+use Rattle.fw_files.specs.declared.stop.Stop.{Stop}
+use Rattle.fw_files.specs.declared.stop.Stop.TheVariants.{NoGoodCopy}
 
 -- an erased image of this size
 abbrev pub AreErased : Order → (size : ℕ) → Shape → (first : List ℕ) → (second : Option (List ℕ)) → Type 0
@@ -57,17 +59,18 @@ IsOpening holds config image order wanted spares asked source session =
     AreWantedIn holds config image order wanted source × OpensOver holds source asked session
     × Spares session.now.current spares source.geometry source.first.bytes.items (second_bytes source.second)
 
--- a copy is good, or no copy has to be: then there is a warning, unless the text is the whole environment
-abbrev pub IsAccepted : Defaults → Held → Option (List ℕ) → Option (List ℕ) → Type 0
-IsAccepted asked session old said = (lacks_copy asked session.now.current ≡ false) × AppendsFront old said (warned asked.whole session.now.current)
-
--- a session opened with the default environment of this text, or an empty one, over copies that it may write if they are to be spared
-pub record IsOpenedWith (holds : Holds) (source : Source) (taken : Defaults) (spares : Bool) (session : Held) (old said : Option (List ℕ)) : Type 0 where
+-- a session opened with the default environment of this text, or an empty one: a copy is good, or none has to be, and the copies
+-- may be written over if they are to be spared
+pub record IsOpenedWith (holds : Holds) (source : Source) (taken : Defaults) (spares : Bool) (session : Held) : Type 0 where
   pub opens : OpensOver holds source taken session
-  pub accepted : IsAccepted taken session old said
+  pub accepted : lacks_copy taken session.now.current ≡ false
   pub spared : Spares session.now.current spares source.geometry source.first.bytes.items (second_bytes source.second)
 
 -- a text of plain lines is taken only if no copy is good
-abbrev pub IsOpened : Holds → Source → (asked : Defaults) → (spares : Bool) → Held → Option (List ℕ) → Option (List ℕ) → Type 0
-IsOpened holds source asked spares session old said =
-    (taken : Defaults) × IsTaken session.now.current asked taken × IsOpenedWith holds source taken spares session old said
+abbrev pub IsOpened : Holds → Source → (asked : Defaults) → (spares : Bool) → Held → Type 0
+IsOpened holds source asked spares session =
+    (taken : Defaults) × IsTaken session.now.current asked taken × IsOpenedWith holds source taken spares session
+
+-- what is reported if a copy has to be good, and none is
+abbrev pub no_good_copy : Shape → (first : List ℕ) → (second : Option (List ℕ)) → Stop
+no_good_copy shape first second = NoGoodCopy (state_of shape first) (option_map (state_of shape) second)

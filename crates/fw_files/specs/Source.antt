@@ -9,8 +9,6 @@ use Rattle.envvars_core.specs.declared.refusals.Refusal.{Refusal}
 use Rattle.envvars_core.specs.declared.refusals.Refusal.TheVariants as refusals
 use Rattle.fw_engines.specs.Defaults.{written}
 use Rattle.envimg_core.specs.declared.choice.Choice.{Choice}
-use Rattle.envimg_core.specs.declared.state.CopyState.{CopyState}
-use Rattle.envimg_core.specs.declared.state.CopyState.TheVariants.{Unterminated}
 use Rattle.envimg_core.specs.declared.choice.Choice.TheVariants.{First, Second, Neither}
 use Rattle.envcfg_core.specs.declared.config.Config.{Config}
 use Rattle.envimg_core.specs.declared.geometry.Order.{Order}
@@ -19,7 +17,7 @@ use Rattle.fw_arguments.specs.Calls.{Defaults}
 use Rattle.fw_arguments.specs.GivenTexts.{is_plain}
 use Rattle.fw_arguments.specs.declared.given_text.TextForm.{TextForm}
 use Rattle.fw_arguments.specs.declared.given_text.TextForm.TheVariants as form
-use Rattle.envcfg_core.specs.Config.{Settings, config_of}
+use Rattle.envcfg_core.specs.Config.{Settings, config_of, config_view}
 use Rattle.envimg_core.specs.Geometry.{Shape}
 use Rattle.fw_files.specs.BareLines.{bare_in}
 use Rattle.fw_files.specs.FileTexts.{Holds}
@@ -42,6 +40,13 @@ pub record IsSourceOf (order : Order) (given : Config) (source : Source) : Type 
   pub config : source.config ≡ given
   pub geometry : source.geometry ≡ record { layout = given.layout; size = given.size; order = order }
   pub second : is_some source.second ≡ is_some given.second
+
+-- the copies that the configuration of a text names
+abbrev pub IsTextOfConfig : (text : List ℕ) → Config → Type 0
+IsTextOfConfig text config = config_of text ≡ Ok (config_view config)
+
+abbrev pub AreCopiesBy : Order → (text : List ℕ) → Source → Type 0
+AreCopiesBy order text source = (config : Config) × IsTextOfConfig text config × IsSourceOf order config source
 
 -- the bytes of a second copy
 abbrev pub second_bytes : Option ReadCopy → Option (List ℕ)
@@ -131,8 +136,3 @@ AreDefaultsOf holds room d vars = AreDefaultsOfPath holds room d.path d.form var
 abbrev pub lacks_copy : Defaults → Choice → Bool
 lacks_copy d Neither = d.need_copy && is_none d.path
 lacks_copy d choice = false
-
--- what is wrong with a copy, in words
-abbrev pub fault_of_copy : CopyState → List ℕ
-fault_of_copy Unterminated = codes "list of entries isn't ended"
-fault_of_copy state = codes "checksum is wrong"

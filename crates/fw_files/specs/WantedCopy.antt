@@ -1,31 +1,32 @@
 -- One copy that is asked for by its number (docs/tools.md, "Subcommands over files").
-use Rattle.std.specs.Prelude.{◌≡◌, ℕ, List, ◌∷◌, [], ◌++◌, Option, Some, None, codes, option_map, unwrap_or}
+use Rattle.std.specs.Prelude.{◌≡◌, ℕ, Bool, true, false, List, Option, Some, None, option_map, unwrap_or, ⊤}
 use Rattle.envimg_core.specs.Geometry.{Shape}
 use Rattle.envimg_core.specs.State.{state_of}
 use Rattle.envimg_core.specs.declared.state.CopyState.{CopyState}
 use Rattle.envimg_core.specs.declared.state.CopyState.TheVariants.{Good}
 use Rattle.fw_arguments.specs.declared.wanted_copy.WantedCopy.{WantedCopy}
 use Rattle.fw_arguments.specs.declared.wanted_copy.WantedCopy.TheVariants.{Current, First, Second}
-use Rattle.fw_engines.specs.Streams.{AppendsFront}
-use Rattle.fw_files.specs.Source.{fault_of_copy, second_bytes}
+use Rattle.fw_files.specs.Source.{second_bytes}
 use Rattle.fw_files.specs.declared.source.Source.{Source}
+use Rattle.fw_files.specs.declared.stop.Stop.{Stop}
+use Rattle.fw_files.specs.declared.stop.Stop.TheVariants.{BadCopy, Memory, NoSecondCopy}
 
--- the line about a copy that isn't good
-abbrev pub line_of : (front : List ℕ) → CopyState → Option (List ℕ)
-line_of front (Good flag) = None
-line_of front state = Some (front ++ fault_of_copy state ++ 10 ∷ [])
+-- why a copy in this state can't be taken, if it can't
+abbrev pub unless_good : (is_second : Bool) → CopyState → Option Stop
+unless_good is_second (Good flag) = None
+unless_good is_second state = Some (BadCopy is_second state)
 
--- and about the copy that is asked for, if it can't be taken
-abbrev pub refusal_of : WantedCopy → Shape → (first : List ℕ) → (second : Option (List ℕ)) → Option (List ℕ)
+-- why the copy that is asked for can't be taken, if it can't
+abbrev pub refusal_of : WantedCopy → Shape → (first : List ℕ) → (second : Option (List ℕ)) → Option Stop
 refusal_of Current shape first second = None
-refusal_of First shape first second = line_of (codes "fwenv: the first copy isn't good: ") (state_of shape first)
-refusal_of Second shape first None = Some (codes "fwenv: there is no second copy" ++ 10 ∷ [])
-refusal_of Second shape first (Some second) = line_of (codes "fwenv: the second copy isn't good: ") (state_of shape second)
+refusal_of First shape first second = unless_good false (state_of shape first)
+refusal_of Second shape first None = Some NoSecondCopy
+refusal_of Second shape first (Some second) = unless_good true (state_of shape second)
 
--- it is printed
-abbrev pub SaysRefusal : Option (List ℕ) → Option (List ℕ) → Option (List ℕ) → Type 0
-SaysRefusal None old new = ⊥
-SaysRefusal (Some line) old new = AppendsFront old new line
+-- that is reported, or memory ran out
+abbrev pub IsRefusal : Option Stop → Stop → Type 0
+IsRefusal refusal Memory = ⊤
+IsRefusal refusal stop = refusal ≡ Some stop
 
 -- the copies over which a session is opened: the one that is asked for is in the place of each
 abbrev pub first_for : WantedCopy → (first : List ℕ) → (second : Option (List ℕ)) → List ℕ

@@ -1,28 +1,23 @@
 //! The copies of a session, written back to their devices.
-ghost use Rattle.std.specs.Prelude.{◌≡◌, ◌≤◌, ◌+◌, ℕ, List, None, IfOk, IfSome, MatchOption, OnOk, length, option_map, true};
+ghost use Rattle.std.specs.Prelude.{◌≡◌, ◌≤◌, ◌+◌, ℕ, List, None, IfOk, IfSome, OnOk, length, option_map, true};
 ghost use Rattle.device_files.specs.Record.{calls_in};
 ghost use Rattle.devices.specs.Changes.{IsApart};
 ghost use Rattle.devices.specs.Device.{Only};
 ghost use Rattle.env_session.specs.Session.{bytes_of};
-ghost use Rattle.fw_engines.specs.Streams.{AppendsFront};
 ghost use Rattle.fw_files.specs.Copies.{device_of, goes_over, warned_of, warning_of};
-ghost use Rattle.fw_files.specs.Said.{SaysSome};
 ghost use Rattle.fw_files.specs.WrittenBack.{AreWritten, IsLeft, LeavesAtAnyMoment, ShowsCopies, differs, first_differs, second_differs, step_of};
 
 use crate::copies::ReadCopy;
-use crate::file_fault::say_fault;
-use crate::file_texts::{FIRST_OVER_DATA, SECOND_OVER_DATA};
 use crate::opened_devices::{CopyFault, open_devices};
-use crate::reasons::Explains;
 use crate::source::Source;
+use crate::stop::Stop;
 use device_files::{OpenDevice, Start};
 use devices::{Change, Device, Fault};
 use env_session::Stored;
+use envcfg_core::Config;
 use envimg_core::Choice;
-use fw_engines::streams::say;
 use fw_engines::{is_good, is_other_data};
 use std::alloc::Global;
-use std::io::Write;
 use std::rt::Files;
 
 /// Which copies are to have other bytes than those that were read.
@@ -36,20 +31,16 @@ pub(crate) struct Changed {
 
 /// Writes back those copies whose bytes changed: the first before the second, but the first one last if `last` is that.
 /// Their devices are opened for it, and stay open in `devices`; none are if no copy changed. Before that each copy is read
-/// again, and nothing is written if another program has changed one. A warning on `errors` precedes a write over other data
-/// beside a good copy. A fault is reported on `errors`, and nothing is written after it.
-pub fn write_back<X: Files + AllocGlobal, S: Start, E: Write>(
+/// again, and nothing is written if another program has changed one. Nothing is written after a fault. [`warning_of_write`]
+/// is due before.
+pub fn write_back<'a, X: Files + AllocGlobal, S: Start>(
     rt: &X,
-    source: &Source,
+    source: &'a Source,
     last: Choice,
     stored: &Stored,
-    explains: Explains,
     devices: &mut Option<OpenDevice<X::File, S>>,
-    errors: &mut E,
-) -> Option<()>
-    ensures said { MatchOption result (SaysSome (E.contents errors.old) (E.contents errors.new))
-        (λ _. AppendsFront (E.contents errors.old) (E.contents errors.new) (warned_of source.now stored.now)) }
-    ensures written { IfSome result (λ _. AreWritten S.contents source.now stored.now.first.items (bytes_of stored.now.second)
+) -> Result<(), Stop<'a>>
+    ensures written { IfOk result (λ _. AreWritten S.contents source.now stored.now.first.items (bytes_of stored.now.second)
         (option_map (λ d. calls_in d.calls) devices.new)) }
     ensures any_moment { LeavesAtAnyMoment S.contents last source.now stored.now.first.items (bytes_of stored.now.second)
         (option_map (λ d. calls_in d.calls) devices.new) }
@@ -57,17 +48,21 @@ pub fn write_back<X: Files + AllocGlobal, S: Start, E: Write>(
     *devices = None;
     let changed = changed_in(source, stored);
     if !changed.first && !changed.second {
-        return Some(());
+        return Ok(());
     }
-    say(errors, warning_of(source, changed));
     match write_changed(rt, source, last, stored, changed, devices) {
-        Ok(()) => Some(()),
+        Ok(()) => Ok(()),
         Err(CopyFault { is_second, fault }) => {
-            let path = device_of(source, is_second);
-            say_fault(rt.alloc(), errors, explains, path, fault);
-            None
+            Err(Stop::File(device_of(&source.config, is_second), fault))
         }
     }
+}
+
+/// The warning before copies are written back, if one of them goes over other data beside a good copy.
+pub fn warning_of_write(source: &Source, stored: &Stored) -> &'static [u8]
+    ensures { result.now ≡ warned_of source.now stored.now }
+{
+    warning_of(source, changed_in(source, stored))
 }
 
 /// Opens the devices of the copies, and writes those back that changed.
@@ -184,12 +179,12 @@ fn differs(read: &[u8], bytes: &[u8]) -> bool
 }
 
 /// The path of a copy's device.
-fn device_of(source: &Source, is_second: bool) -> &str
-    ensures { result.now ≡ device_of source.now.config is_second }
+pub fn device_of(config: &Config, is_second: bool) -> &str
+    ensures { result.now ≡ device_of config.now is_second }
 {
-    match &source.config.second {
+    match &config.second {
         Some(place) if is_second => place.device.as_str(),
-        _ => source.config.first.device.as_str(),
+        _ => config.first.device.as_str(),
     }
 }
 
@@ -201,10 +196,10 @@ fn warning_of(source: &Source, changed: Changed) -> &'static [u8]
         return b"";
     };
     if changed.first && goes_over(source, &source.first, copy) {
-        return FIRST_OVER_DATA;
+        return b"Warning: the first copy is written over data that is no environment\n";
     }
     if changed.second && goes_over(source, copy, &source.first) {
-        return SECOND_OVER_DATA;
+        return b"Warning: the second copy is written over data that is no environment\n";
     }
     b""
 }

@@ -15,7 +15,7 @@ use envcfg_core::Place;
 use envimg_core::SIZE_MAX;
 use fw_engines::StreamFault;
 use fw_engines::streams::read_up_to;
-use std::alloc::Global;
+use std::alloc::{AllocError, Global};
 use std::fs::OpenOptions;
 use std::io::{Seek, SeekFrom};
 use std::rt::Files;
@@ -121,7 +121,7 @@ pub(crate) fn with_following<X: Files + AllocGlobal>(
     rt: &X,
     place: &Place,
     copy: ReadCopy,
-) -> Result<ReadCopy, FileFault>
+) -> Result<ReadCopy, AllocError>
     ensures bytes { IfOk result (λ found. IsContinued copy.bytes.items found.bytes.items) }
     ensures start { IfOk result (λ found. found.start ≡ copy.start) }
 {
@@ -129,11 +129,11 @@ pub(crate) fn with_following<X: Files + AllocGlobal>(
     let end = start.saturating_add(bytes.len() as u64);
     let most = (SIZE_MAX as usize).saturating_sub(bytes.len());
     match read_from(rt, place, end, most) {
-        Ok(following) => match bytes.extend_from_slice(&following) {
-            Ok(()) => Ok(ReadCopy { bytes, start }),
-            Err(_) => Err(FileFault::Memory),
-        },
-        Err(FileFault::Memory) => Err(FileFault::Memory),
+        Ok(following) => {
+            bytes.extend_from_slice(&following)?;
+            Ok(ReadCopy { bytes, start })
+        }
+        Err(FileFault::Memory) => Err(AllocError),
         Err(_) => Ok(ReadCopy { bytes, start }),
     }
 }

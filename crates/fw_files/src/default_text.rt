@@ -1,26 +1,27 @@
 //! The default environment of a session: which text it is, and its variables.
-ghost use Rattle.std.specs.Prelude.{◌≡◌, ◌≤◌, ◌++◌, false, IfErr, IfOk, MatchOption, Ok, map};
+ghost use Rattle.std.specs.Prelude.{◌≡◌, ◌≤◌, ◌++◌, false, IfErr, IfOk, Ok, map};
 ghost use Rattle.std.specs.FinMap as env;
 ghost use Rattle.std.specs.List.{flat_map};
 ghost use Rattle.envcfg_core.specs.Entries.{entry_view};
 ghost use Rattle.envcfg_core.specs.Import.{import_of};
 ghost use Rattle.fw_arguments.specs.Calls.{defaults_view};
 ghost use Rattle.fw_engines.specs.Defaults.{written};
-ghost use Rattle.fw_files.specs.Said.{SaysSome};
+ghost use Rattle.fw_files.specs.Stops.{IsAbout};
 ghost use Rattle.fw_files.specs.Source.{AreDefaultsAt, AreDefaultsIn, AreDefaultsOf, AreEntriesIn, IsFound, IsRefused, closed_lines, closing_byte, default_fault, escaped_byte, is_escape, takes_initial};
 
 use crate::bare_lines::bare_in;
-use crate::file_fault::{FileFault, value_or_say};
-use crate::file_texts::INITIAL_ENVIRONMENT;
+use crate::file_fault::FileFault;
 use crate::files::{import_from, read_text, source_from};
-use crate::reasons::Explains;
+use crate::stop::Stop;
 use crate::system::System;
 use envcfg_core::TextEntry;
 use envvars_core::{Refusal, Vars};
 use fw_arguments::{Defaults, GivenText, TextForm};
 use fw_engines::defaults;
 use std::alloc::{AllocError, Global};
-use std::io::Write;
+
+/// The default environment of a board's build.
+const INITIAL_ENVIRONMENT: &str = "/etc/u-boot-initial-env";
 
 /// The default environment that is asked for, with the text of the board's build if none is given and it is there.
 pub(crate) fn found_defaults<'w, X: System>(rt: &X, asked: Defaults<'w>) -> Defaults<'w>
@@ -64,19 +65,20 @@ pub(crate) fn given_defaults<X: System + AllocGlobal>(
     }
 }
 
-/// The variables of a text, in this room; a fault is reported on `errors`.
-pub fn variables_or_say<X: System + AllocGlobal, E: Write>(
+/// The variables of a text, in this room.
+pub fn read_variables<'a, X: System + AllocGlobal>(
     rt: &X,
     room: u32,
-    text: GivenText<'_>,
-    errors: &mut E,
-) -> Option<Vars>
+    text: GivenText<'a>,
+) -> Result<Vars, Stop<'a>>
     requires { 1 ≤ room }
-    ensures { MatchOption result (SaysSome (E.contents errors.old) (E.contents errors.new))
-        (λ vars. AreDefaultsAt (X.holds rt.now) text.entry.path.now text.entry.form room vars × (E.contents errors.new ≡ E.contents errors.old)) }
+    ensures read { IfOk result (AreDefaultsAt (X.holds rt.now) text.entry.path.now text.entry.form room) }
+    ensures stopped { IfErr result (IsAbout text.entry.path.now) }
 {
-    let read = read_default(rt, room, text.path, text.form);
-    value_or_say(rt.alloc(), errors, Explains::Reason, text.path, read)
+    match read_default(rt, room, text.path, text.form) {
+        Ok(vars) => Ok(vars),
+        Err(fault) => Err(Stop::File(text.path, fault)),
+    }
 }
 
 /// Reads the default environment.

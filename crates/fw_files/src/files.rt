@@ -1,5 +1,5 @@
 //! Files that are read whole.
-ghost use Rattle.std.specs.Prelude.{◌≡◌, ◌≤◌, ℕ, List, None, Ok, Some, IfErr, IfOk, MatchOption, length, map, option_map};
+ghost use Rattle.std.specs.Prelude.{◌≡◌, ◌≤◌, ℕ, List, None, Ok, Some, IfErr, IfOk, length, map, option_map};
 ghost use Rattle.envcfg_core.specs.Entries.{entry_view};
 ghost use Rattle.envcfg_core.specs.Import.{import_of};
 ghost use Rattle.envcfg_core.specs.SetScript.{set_script_of};
@@ -7,13 +7,13 @@ ghost use Rattle.env_source.specs.Sources.{source_of};
 ghost use Rattle.board_file.specs.BoardFiles.{board_of};
 ghost use Rattle.fw_files.specs.Files.{AreImportedAt, AreRulesOf, AreSetAt, AreStubsOf, IsTextAt, IsTextFault, board_fault, dump_limit, file_limit, opened_path, source_fault, text_fault};
 ghost use Rattle.fw_files.specs.ForeignTexts.{foreign_in};
-ghost use Rattle.fw_files.specs.Said.{SaysSome};
+ghost use Rattle.fw_files.specs.Stops.{IsAbout};
 ghost use Rattle.hush_commands.specs.Stubs.{stand_ins_of};
 
-use crate::file_fault::{FileFault, value_or_say};
-use crate::file_texts::DEVICE_OF_INPUT;
+use crate::file_fault::FileFault;
 use crate::foreign_texts::foreign_in;
-use crate::reasons::{Explains, Reason};
+use crate::reasons::Reason;
+use crate::stop::Stop;
 use crate::system::System;
 use board_file::{BoardFault, LineFault, parse_board};
 use env_source::{Flaw, SourceFault, parse_source};
@@ -23,7 +23,10 @@ use fw_engines::StreamFault;
 use fw_engines::streams::read_up_to;
 use hush_commands::{BoardRules, StubFault, Stubs};
 use std::alloc::Global;
-use std::io::{self, Read, Write};
+use std::io::{self, Read};
+
+/// The file that is standard input.
+const DEVICE_OF_INPUT: &str = "/dev/stdin";
 
 /// The most bytes of a file that is read whole.
 const FILE_LIMIT: usize = 16_777_216;
@@ -141,44 +144,48 @@ pub(crate) fn source_from(alloc: Global, text: &[u8]) -> Result<Vec<TextEntry>, 
     }
 }
 
-/// The entries of the text for import at a path; a fault is reported on `errors`.
-pub fn entries_or_say<X: System + AllocGlobal, E: Write>(
+/// The entries of the text for import at a path.
+pub fn read_entries<'a, X: System + AllocGlobal>(
     rt: &X,
-    path: &str,
-    explains: Explains,
-    errors: &mut E,
-) -> Option<Vec<TextEntry>>
-    ensures { MatchOption result (SaysSome (E.contents errors.old) (E.contents errors.new))
-        (λ entries. AreImportedAt (X.holds rt.now) path.now (map entry_view entries.items) × (E.contents errors.new ≡ E.contents errors.old)) }
+    path: &'a str,
+) -> Result<Vec<TextEntry>, Stop<'a>>
+    ensures read { IfOk result (λ entries. AreImportedAt (X.holds rt.now) path.now (map entry_view entries.items)) }
+    ensures stopped { IfErr result (IsAbout path.now) }
 {
-    let text = value_or_say(rt.alloc(), errors, explains, path, read_text(rt, path))?;
-    value_or_say(
-        rt.alloc(),
-        errors,
-        explains,
-        path,
-        import_from(rt.alloc(), &text),
-    )
+    match imported(rt, path) {
+        Ok(entries) => Ok(entries),
+        Err(fault) => Err(Stop::File(path, fault)),
+    }
 }
 
-/// The entries of the set script at a path; a fault is reported on `errors`.
-pub fn script_entries_or_say<X: System + AllocGlobal, E: Write>(
-    rt: &X,
-    path: &str,
-    explains: Explains,
-    errors: &mut E,
-) -> Option<Vec<TextEntry>>
-    ensures { MatchOption result (SaysSome (E.contents errors.old) (E.contents errors.new))
-        (λ entries. AreSetAt (X.holds rt.now) path.now (map entry_view entries.items) × (E.contents errors.new ≡ E.contents errors.old)) }
+/// The same, with its fault alone.
+fn imported<X: System + AllocGlobal>(rt: &X, path: &str) -> Result<Vec<TextEntry>, FileFault>
+    ensures { IfOk result (λ entries. AreImportedAt (X.holds rt.now) path.now (map entry_view entries.items)) }
 {
-    let text = value_or_say(rt.alloc(), errors, explains, path, read_file(rt, path))?;
-    value_or_say(
-        rt.alloc(),
-        errors,
-        explains,
-        path,
-        script_from(rt.alloc(), &text),
-    )
+    let text = read_text(rt, path)?;
+    import_from(rt.alloc(), &text)
+}
+
+/// The entries of the set script at a path.
+pub fn read_set_script<'a, X: System + AllocGlobal>(
+    rt: &X,
+    path: &'a str,
+) -> Result<Vec<TextEntry>, Stop<'a>>
+    ensures read { IfOk result (λ entries. AreSetAt (X.holds rt.now) path.now (map entry_view entries.items)) }
+    ensures stopped { IfErr result (IsAbout path.now) }
+{
+    match set_script_at(rt, path) {
+        Ok(entries) => Ok(entries),
+        Err(fault) => Err(Stop::File(path, fault)),
+    }
+}
+
+/// The same, with its fault alone.
+fn set_script_at<X: System + AllocGlobal>(rt: &X, path: &str) -> Result<Vec<TextEntry>, FileFault>
+    ensures { IfOk result (λ entries. AreSetAt (X.holds rt.now) path.now (map entry_view entries.items)) }
+{
+    let text = read_file(rt, path)?;
+    script_from(rt.alloc(), &text)
 }
 
 /// The entries of a set script.

@@ -21,7 +21,7 @@ pub enum Foreign {
 
 impl Foreign {
     /// What follows the path of the file.
-    pub(crate) fn ending(self) -> &'static [u8]
+    pub fn ending(self) -> &'static [u8]
         ensures { result.now ≡ foreign_ending self }
     {
         match self {

@@ -1,17 +1,13 @@
 //! The lock files that U-Boot's tools and libubootenv lock too.
-ghost use Rattle.std.specs.Prelude.{MatchOption};
 ghost use Rattle.fw_files.specs.Locks.{HasWaited};
-ghost use Rattle.fw_files.specs.Said.{SaysSome};
 
 use crate::device_access::{is_pipe, lock_device};
-use crate::file_texts::CANNOT_LOCK;
-use crate::reasons::{Explains, Reason};
+use crate::reasons::Reason;
+use crate::stop::Stop;
 use crate::system::{Hold, System};
 use crate::waiting::wait_for_lock;
 use envcfg_core::Place;
 use fw_arguments::LockFiles;
-use fw_engines::OUT_OF_MEMORY;
-use fw_engines::streams::{say, write_three};
 use std::fs::{self, Metadata, OpenFile, OpenOptions};
 use std::io::{self, ErrorKind, Write};
 use std::os::unix::fs::MetadataExt;
@@ -60,23 +56,22 @@ impl Need {
 ///
 /// Lock files that don't have to be had are locked shared, which keeps other programs off, and not the runs of `fwenv` over
 /// other devices. A file that isn't there is made, but no folder, and none by what only reads and doesn't have to have it.
-/// A file that has to be had and can't be is reported on `errors`, and so is each one whose lock is waited for
-/// (docs/tools.md, "Other programs").
+/// Each one whose lock is waited for is reported on `errors` (docs/tools.md, "Other programs").
 ///
 /// U-Boot's tools put a new file in the place of one with a single image. If the one that was locked isn't the device
 /// any more, or there is no lock on it, the lock files are locked alone, so that nothing else is at work.
-pub fn lock_copies<X: System + AllocGlobal, E: Write>(
+pub fn lock_copies<'a, X: System + AllocGlobal, E: Write>(
     rt: &X,
     place: &Place,
-    files: LockFiles<'_>,
+    files: LockFiles<'a>,
     hold: Hold,
     errors: &mut E,
-) -> Option<Locks<X::File>>
-    ensures { MatchOption result (SaysSome (E.contents errors.old) (E.contents errors.new)) (λ _. HasWaited (E.contents errors.old) (E.contents errors.new)) }
+) -> Result<Locks<X::File>, Stop<'a>>
+    ensures { HasWaited (E.contents errors.old) (E.contents errors.new) }
 {
     let locks = lock_once(rt, place, files, hold, files_hold(files, hold), errors)?;
     if is_in_place(rt, place, &locks.device) {
-        Some(locks)
+        Ok(locks)
     } else {
         drop(locks);
         lock_once(rt, place, files, hold, Hold::Alone, errors)
@@ -103,34 +98,34 @@ fn is_in_place<X: System>(rt: &X, place: &Place, locked: &Option<X::File>) -> bo
 }
 
 /// Locks the device so, and the lock files so.
-fn lock_once<X: System + AllocGlobal, E: Write>(
+fn lock_once<'a, X: System + AllocGlobal, E: Write>(
     rt: &X,
     place: &Place,
-    files: LockFiles<'_>,
+    files: LockFiles<'a>,
     device_hold: Hold,
     files_hold: Hold,
     errors: &mut E,
-) -> Option<Locks<X::File>>
-    ensures { MatchOption result (SaysSome (E.contents errors.old) (E.contents errors.new)) (λ _. HasWaited (E.contents errors.old) (E.contents errors.new)) }
+) -> Result<Locks<X::File>, Stop<'a>>
+    ensures { HasWaited (E.contents errors.old) (E.contents errors.new) }
 {
     let makes = device_hold == Hold::Alone;
     let device = lock_device(rt, place, device_hold, errors);
     let files = lock_files(rt, files, makes, files_hold, errors)?;
-    Some(Locks { device, files })
+    Ok(Locks { device, files })
 }
 
 /// Locks the lock files of a call; `makes`: also one that isn't there and doesn't have to be.
-fn lock_files<X: System + AllocGlobal, E: Write>(
+fn lock_files<'a, X: System + AllocGlobal, E: Write>(
     rt: &X,
-    files: LockFiles<'_>,
+    files: LockFiles<'a>,
     makes: bool,
     hold: Hold,
     errors: &mut E,
-) -> Option<LockedFiles<X::File>>
-    ensures { MatchOption result (SaysSome (E.contents errors.old) (E.contents errors.new)) (λ _. HasWaited (E.contents errors.old) (E.contents errors.new)) }
+) -> Result<LockedFiles<X::File>, Stop<'a>>
+    ensures { HasWaited (E.contents errors.old) (E.contents errors.new) }
 {
     match files {
-        LockFiles::Nothing => Some(LockedFiles {
+        LockFiles::Nothing => Ok(LockedFiles {
             first: None,
             second: None,
         }),
@@ -141,24 +136,24 @@ fn lock_files<X: System + AllocGlobal, E: Write>(
 }
 
 /// The lock file in this folder.
-fn lock_in<X: System + AllocGlobal, E: Write>(
+fn lock_in<'a, X: System + AllocGlobal, E: Write>(
     rt: &X,
-    folder: &str,
+    folder: &'a str,
     hold: Hold,
     errors: &mut E,
-) -> Option<LockedFiles<X::File>>
-    ensures { MatchOption result (SaysSome (E.contents errors.old) (E.contents errors.new)) (λ _. HasWaited (E.contents errors.old) (E.contents errors.new)) }
+) -> Result<LockedFiles<X::File>, Stop<'a>>
+    ensures { HasWaited (E.contents errors.old) (E.contents errors.new) }
 {
     let Ok(path) = format!(in rt.alloc(); "{folder}/fw_printenv.lock") else {
-        say(errors, OUT_OF_MEMORY);
-        return None;
+        return Err(Stop::Memory);
     };
-    let file = opened(rt, path.as_str(), Need::Made);
-    let first = locked_or_say(rt, file, path.as_str(), Need::Made, hold, errors)?;
-    Some(LockedFiles {
-        first,
-        second: None,
-    })
+    match lock_at(rt, path.as_str(), Need::Made, hold, errors) {
+        Ok(first) => Ok(LockedFiles {
+            first,
+            second: None,
+        }),
+        Err(reason) => Err(Stop::NotLocked(folder, reason)),
+    }
 }
 
 /// The two usual lock files, in the order in which each program has to lock them.
@@ -167,14 +162,18 @@ fn lock_usual<X: System, E: Write>(
     need: Need,
     hold: Hold,
     errors: &mut E,
-) -> Option<LockedFiles<X::File>>
-    ensures { MatchOption result (SaysSome (E.contents errors.old) (E.contents errors.new)) (λ _. HasWaited (E.contents errors.old) (E.contents errors.new)) }
+) -> Result<LockedFiles<X::File>, Stop<'static>>
+    ensures { HasWaited (E.contents errors.old) (E.contents errors.new) }
 {
-    let run = opened(rt, RUN, need);
-    let first = locked_or_say(rt, run, RUN, need, hold, errors)?;
+    let first = match lock_at(rt, RUN, need, hold, errors) {
+        Ok(first) => first,
+        Err(reason) => return Err(Stop::NotLocked("/run", reason)),
+    };
     let var_lock = unless_same(&first, opened(rt, VAR_LOCK, need));
-    let second = locked_or_say(rt, var_lock, VAR_LOCK, need, hold, errors)?;
-    Some(LockedFiles { first, second })
+    match locked(rt, var_lock, VAR_LOCK, need, hold, errors) {
+        Ok(second) => Ok(LockedFiles { first, second }),
+        Err(reason) => Err(Stop::NotLocked("/var/lock", reason)),
+    }
 }
 
 /// The second file, unless it is the first one by another path: a program would wait for its own lock on another open of it.
@@ -236,54 +235,39 @@ fn unless_needed<F: Drop>(need: Need, reason: Reason) -> Result<Option<F>, Reaso
     }
 }
 
-/// A lock file that was opened, locked. If it has to be had and can't be, that is reported on `errors`.
-fn locked_or_say<X: System, E: Write>(
+/// A lock file, locked; `None` if it can't be had and doesn't have to be.
+fn lock_at<X: System, E: Write>(
+    rt: &X,
+    path: &str,
+    need: Need,
+    hold: Hold,
+    errors: &mut E,
+) -> Result<Option<X::File>, Reason>
+    ensures { HasWaited (E.contents errors.old) (E.contents errors.new) }
+{
+    locked(rt, opened(rt, path, need), path, need, hold, errors)
+}
+
+/// The same for a lock file that was opened.
+fn locked<X: System, E: Write>(
     rt: &X,
     opened: Result<Option<X::File>, Reason>,
     path: &str,
     need: Need,
     hold: Hold,
     errors: &mut E,
-) -> Option<Option<X::File>>
-    ensures { MatchOption result (SaysSome (E.contents errors.old) (E.contents errors.new)) (λ _. HasWaited (E.contents errors.old) (E.contents errors.new)) }
+) -> Result<Option<X::File>, Reason>
+    ensures { HasWaited (E.contents errors.old) (E.contents errors.new) }
 {
     match opened {
-        Err(reason) => {
-            say_not_locked(path, reason, errors);
-            None
-        }
-        Ok(None) => Some(None),
-        Ok(Some(file)) => lock_or_say(rt, file, path, need, hold, errors),
-    }
-}
-
-/// The same for a file that is open.
-fn lock_or_say<X: System, E: Write>(
-    rt: &X,
-    file: X::File,
-    path: &str,
-    need: Need,
-    hold: Hold,
-    errors: &mut E,
-) -> Option<Option<X::File>>
-    ensures { MatchOption result (SaysSome (E.contents errors.old) (E.contents errors.new)) (λ _. HasWaited (E.contents errors.old) (E.contents errors.new)) }
-{
-    if wait_for_lock(rt, &file, path, hold, errors) {
-        return Some(Some(file));
-    }
-    match need {
-        Need::Spare | Need::IfThere => Some(None),
-        Need::Made | Need::Had => {
-            say_not_locked(path, Reason::Unknown, errors);
-            None
+        Err(reason) => Err(reason),
+        Ok(None) => Ok(None),
+        Ok(Some(file)) => {
+            if wait_for_lock(rt, &file, path, hold, errors) {
+                Ok(Some(file))
+            } else {
+                unless_needed(need, Reason::Unknown)
+            }
         }
     }
-}
-
-/// Prints that a lock file can't be had.
-fn say_not_locked<E: Write>(path: &str, reason: Reason, errors: &mut E)
-    ensures { SaysSome (E.contents errors.old) (E.contents errors.new) }
-{
-    let ending = reason.ending(Explains::Reason);
-    let _ = write_three(errors, CANNOT_LOCK, path.as_bytes(), ending);
 }

@@ -17,13 +17,13 @@ use std::fs::{OpenFile, OpenOptions};
 use std::io::{ErrorKind, Read, Seek, SeekFrom, Write};
 use std::rt::Files;
 
-/// Why a copy can't be written, and which.
+/// Why a copy can't be read or written, and which.
 #[derive(Clone, Copy)]
-pub(crate) struct CopyFault {
+pub struct CopyFault {
     /// It is the second copy.
-    pub(crate) is_second: bool,
+    pub is_second: bool,
     /// Why not.
-    pub(crate) fault: FileFault,
+    pub fault: FileFault,
 }
 
 impl CopyFault {

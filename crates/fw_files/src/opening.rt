@@ -1,149 +1,119 @@
 //! The session over the copies that were read.
-ghost use Rattle.std.specs.Prelude.{◌≡◌, true, IfOk, MatchOption};
+ghost use Rattle.std.specs.Prelude.{◌≡◌, false, true, IfOk, OnOk};
 ghost use Rattle.env_session.specs.Session.{bytes_of, opened, opening_choice};
 ghost use Rattle.fw_arguments.specs.Calls.{defaults_view};
 ghost use Rattle.fw_arguments.specs.GivenTexts.{is_plain};
-ghost use Rattle.fw_engines.specs.Streams.{AppendsFront};
 ghost use Rattle.fw_files.specs.Misread.{Spares};
-ghost use Rattle.fw_files.specs.Opening.{IsAccepted, IsOpened, IsOpenedWith, OpensOver};
-ghost use Rattle.fw_files.specs.Said.{SaysSome};
-ghost use Rattle.fw_files.specs.Source.{fault_of_copy, lacks_copy, second_bytes, warned};
+ghost use Rattle.fw_files.specs.Opening.{IsOpened, IsOpenedWith, OpensOver, no_good_copy};
+ghost use Rattle.fw_files.specs.Source.{lacks_copy, second_bytes, warned};
 
 use crate::default_text::{found_defaults, given_defaults};
-use crate::file_fault::{FileFault, say_fault, value_or_say};
-use crate::file_texts::{BAD_CRC_DEFAULT, IN_FIRST, IN_SECOND, LOOK_AT, NO_GOOD_COPY};
+use crate::file_fault::FileFault;
 use crate::misread_copies::spare_misread;
-use crate::reasons::Explains;
 use crate::source::Source;
+use crate::stop::Stop;
 use crate::system::System;
 use env_session::{Session, Stored};
 use envimg_core::{Choice, CopyState, check_copy, choose};
 use envvars_core::Vars;
 use fw_arguments::Defaults;
-use fw_engines::streams::{say, write_three, write_two};
 use std::alloc::{AllocError, Global};
-use std::io::Write;
 
 /// The session over these copies, with the default environment of a text, or an empty one; a text of plain lines is read
-/// only if neither copy is good. If neither is, that is reported on `errors`, before a fault of the text. The result is
-/// `None`, with the reason reported, if one has to be, or if copies are to be spared (`spares`) and one of them is good in
-/// another way than the configuration has it.
-pub fn open<X: System + AllocGlobal, E: Write>(
+/// only if neither copy is good. It isn't opened if a copy has to be good and none is, or if copies are to be spared
+/// (`spares`) and one of them is good in another way than the configuration has it.
+pub fn open<'a, X: System + AllocGlobal>(
     rt: &X,
     source: &Source,
-    asked: &Defaults<'_>,
+    asked: &Defaults<'a>,
     spares: bool,
-    explains: Explains,
-    errors: &mut E,
-) -> Option<Session>
-    ensures { MatchOption result (SaysSome (E.contents errors.old) (E.contents errors.new))
-        (λ session. IsOpened (X.holds rt.now) source.now (defaults_view asked.now) spares session (E.contents errors.old) (E.contents errors.new)) }
+) -> Result<Session, Stop<'a>>
+    ensures { IfOk result (IsOpened (X.holds rt.now) source.now (defaults_view asked.now) spares) }
 {
     if asked.form.is_plain() {
-        open_plain(rt, source, asked, spares, explains, errors)
+        open_plain(rt, source, asked, spares)
     } else {
-        open_with(rt, source, asked, spares, explains, errors)
+        open_with(rt, source, asked, spares)
     }
 }
 
 /// The same if the text has plain lines, and may be that of the board's build.
-fn open_plain<X: System + AllocGlobal, E: Write>(
+fn open_plain<'a, X: System + AllocGlobal>(
     rt: &X,
     source: &Source,
-    asked: &Defaults<'_>,
+    asked: &Defaults<'a>,
     spares: bool,
-    explains: Explains,
-    errors: &mut E,
-) -> Option<Session>
+) -> Result<Session, Stop<'a>>
     requires { is_plain asked.now.form ≡ true }
-    ensures { MatchOption result (SaysSome (E.contents errors.old) (E.contents errors.new))
-        (λ session. IsOpened (X.holds rt.now) source.now (defaults_view asked.now) spares session (E.contents errors.old) (E.contents errors.new)) }
+    ensures { IfOk result (IsOpened (X.holds rt.now) source.now (defaults_view asked.now) spares) }
 {
     let none = Vars::empty(rt.alloc(), source.geometry.room());
-    let opened = start(rt.alloc(), source, none);
-    let session = value_or_say(rt.alloc(), errors, explains, "", opened)?;
+    let session = start(rt.alloc(), source, none)?;
     match session.current() {
-        Choice::First => Some(session),
-        Choice::Second => Some(session),
+        Choice::First => Ok(session),
+        Choice::Second => Ok(session),
         Choice::Neither => {
             let found = found_defaults(rt, *asked);
-            open_with(rt, source, &found, spares, explains, errors)
+            open_with(rt, source, &found, spares)
         }
     }
 }
 
 /// The session with the default environment of this text, or with an empty one.
-fn open_with<X: System + AllocGlobal, E: Write>(
+fn open_with<'a, X: System + AllocGlobal>(
     rt: &X,
     source: &Source,
-    asked: &Defaults<'_>,
+    asked: &Defaults<'a>,
     spares: bool,
-    explains: Explains,
-    errors: &mut E,
-) -> Option<Session>
-    ensures { MatchOption result (SaysSome (E.contents errors.old) (E.contents errors.new))
-        (λ session. IsOpenedWith (X.holds rt.now) source.now (defaults_view asked.now) spares session (E.contents errors.old) (E.contents errors.new)) }
+) -> Result<Session, Stop<'a>>
+    ensures { IfOk result (IsOpenedWith (X.holds rt.now) source.now (defaults_view asked.now) spares) }
 {
     match session_over(rt, source, asked) {
-        Ok(session) => accept(rt, source, asked, spares, session, errors),
+        Ok(session) => accepted(rt, source, asked, spares, session),
         Err(fault) => {
             let current = current_of(source);
-            warn(asked.whole | lacks_copy(asked, current), current, errors);
-            say_fault(
-                rt.alloc(),
-                errors,
-                explains,
-                asked.path.unwrap_or(""),
-                fault,
-            );
-            None
+            let is_silent = asked.whole | lacks_copy(asked, current);
+            let warning = warning_of(is_silent, current);
+            Err(Stop::Defaults(asked.path.unwrap_or(""), fault, warning))
         }
     }
 }
 
-/// The session, with a warning if neither copy is good; `None` if one has to be, or if they are spared, and then it is
-/// reported why.
-fn accept<X: System + AllocGlobal, E: Write>(
+/// The session, unless its copies are to be spared, or one has to be good and none is.
+fn accepted<X: System + AllocGlobal>(
     rt: &X,
     source: &Source,
     asked: &Defaults<'_>,
     spares: bool,
     session: Session,
-    errors: &mut E,
-) -> Option<Session>
-    ensures { MatchOption result (SaysSome (E.contents errors.old) (E.contents errors.new)) (λ accepted. (accepted ≡ session)
-        × IsAccepted (defaults_view asked.now) session (E.contents errors.old) (E.contents errors.new)
+) -> Result<Session, Stop<'static>>
+    ensures { IfOk result (λ accepted. (accepted ≡ session) × (lacks_copy (defaults_view asked.now) session.now.current ≡ false)
         × Spares session.now.current spares source.now.geometry source.now.first.bytes.items (second_bytes source.now.second)) }
 {
-    spare(rt, source, spares, session.current(), errors)?;
+    spare(rt, source, spares, session.current())?;
     if lacks_copy(asked, session.current()) {
-        say_faults(source, errors);
-        return None;
+        return Err(no_good_copy(source));
     }
-    warn(asked.whole, session.current(), errors);
-    Some(session)
+    Ok(session)
 }
 
-/// Looks whether the copies may be written over, if they are to be spared; `None` if not, and then it is reported why.
-fn spare<X: System + AllocGlobal, E: Write>(
+/// Looks whether the copies may be written over, if they are to be spared.
+fn spare<X: System + AllocGlobal>(
     rt: &X,
     source: &Source,
     spares: bool,
     current: Choice,
-    errors: &mut E,
-) -> Option<()>
-    ensures { MatchOption result (SaysSome (E.contents errors.old) (E.contents errors.new))
-        (λ _. Spares current spares source.now.geometry source.now.first.bytes.items (second_bytes source.now.second)
-        × (E.contents errors.new ≡ E.contents errors.old)) }
+) -> Result<(), Stop<'static>>
+    ensures { OnOk result (Spares current spares source.now.geometry source.now.first.bytes.items (second_bytes source.now.second)) }
 {
     match current {
-        Choice::First => Some(()),
-        Choice::Second => Some(()),
+        Choice::First => Ok(()),
+        Choice::Second => Ok(()),
         Choice::Neither => {
             if spares {
-                spare_misread(rt, source, errors)
+                spare_misread(rt, source)
             } else {
-                Some(())
+                Ok(())
             }
         }
     }
@@ -159,40 +129,15 @@ fn lacks_copy(asked: &Defaults<'_>, current: Choice) -> bool
     }
 }
 
-/// Prints what is wrong with each copy, and what to look at.
-fn say_faults<E: Write>(source: &Source, errors: &mut E)
-    ensures { SaysSome (E.contents errors.old) (E.contents errors.new) }
+/// What is wrong with each copy.
+fn no_good_copy(source: &Source) -> Stop<'static>
+    ensures { result ≡ no_good_copy source.now.geometry source.now.first.bytes.items (second_bytes source.now.second) }
 {
-    let first = check_copy(&source.geometry, &source.first.bytes);
-    if !write_two(errors, NO_GOOD_COPY, fault_of_copy(first)) {
-        return;
-    }
-    if write_second_fault(source, errors) {
-        say(errors, LOOK_AT);
-    }
-}
-
-/// Prints what is wrong with the second copy, if there is one, and answers whether that was written.
-fn write_second_fault<E: Write>(source: &Source, errors: &mut E) -> bool
-    ensures { SaysSome (E.contents errors.old) (E.contents errors.new) }
-{
-    match &source.second {
-        None => true,
-        Some(copy) => {
-            let second = check_copy(&source.geometry, &copy.bytes);
-            write_three(errors, IN_FIRST, fault_of_copy(second), IN_SECOND)
-        }
-    }
-}
-
-/// What is wrong with a copy of the right length.
-pub(crate) fn fault_of_copy(state: CopyState) -> &'static [u8]
-    ensures { result.now ≡ fault_of_copy state }
-{
-    match state {
-        CopyState::Unterminated => b"list of entries isn't ended",
-        _ => b"checksum is wrong",
-    }
+    let second = match &source.second {
+        None => None,
+        Some(copy) => Some(check_copy(&source.geometry, &copy.bytes)),
+    };
+    Stop::NoGoodCopy(check_copy(&source.geometry, &source.first.bytes), second)
 }
 
 /// The session over these copies. A fault is that of the default text.
@@ -204,18 +149,18 @@ fn session_over<X: System + AllocGlobal>(
     ensures { IfOk result (OpensOver (X.holds rt.now) source.now (defaults_view asked.now)) }
 {
     let given = given_defaults(rt, source.geometry.room(), asked)?;
-    start(rt.alloc(), source, given)
+    Ok(start(rt.alloc(), source, given)?)
 }
 
 /// Starts the session over copies of the bytes that were read.
-fn start(alloc: Global, source: &Source, given: Vars) -> Result<Session, FileFault>
+fn start(alloc: Global, source: &Source, given: Vars) -> Result<Session, AllocError>
     ensures { IfOk result (λ s. s ≡ opened source.now.geometry source.now.first.bytes.items (second_bytes source.now.second) given) }
 {
     let stored = copies_of(alloc, source)?;
     match Session::start(alloc, stored, given) {
         Ok(session) => Ok(session),
         // no other refusal is possible: each copy was read in the configuration's size, and the defaults have its room
-        Err(_) => Err(FileFault::Memory),
+        Err(_) => Err(AllocError),
     }
 }
 
@@ -248,11 +193,12 @@ fn current_of(source: &Source) -> Choice
     choose(check_copy(&source.geometry, &source.first.bytes), second)
 }
 
-/// Prints a warning on `errors` if neither copy is good, unless `whole`.
-fn warn<E: Write>(whole: bool, current: Choice, errors: &mut E)
-    ensures { AppendsFront (E.contents errors.old) (E.contents errors.new) (warned whole current) }
+/// The warning that neither copy is good, or nothing if one is, or if it isn't missed (`is_silent`).
+pub fn warning_of(is_silent: bool, current: Choice) -> &'static [u8]
+    ensures { result.now ≡ warned is_silent current }
 {
-    if !whole && current == Choice::Neither {
-        say(errors, BAD_CRC_DEFAULT);
+    match current {
+        Choice::Neither if !is_silent => b"Warning: Bad CRC, using default environment\n",
+        _ => b"",
     }
 }

@@ -1,24 +1,22 @@
 //! The copies that a configuration names, as they are read.
-ghost use Rattle.std.specs.Prelude.{◌≡◌, Ok, Some, false, IfOk, MatchOption, is_some, replicate, None};
+ghost use Rattle.std.specs.Prelude.{◌≡◌, Ok, false, IfErr, IfOk, is_some, replicate, None};
 ghost use Rattle.envcfg_core.specs.Config.{config_of, config_view};
 ghost use Rattle.fw_files.specs.Copies.{overlap};
 ghost use Rattle.fw_files.specs.Opening.{IsErased};
-ghost use Rattle.fw_files.specs.Said.{SaysSome};
 ghost use Rattle.fw_files.specs.Source.{AreSettingsAt, IsSourceOf};
+ghost use Rattle.fw_files.specs.Stops.{IsAbout};
+ghost use Rattle.fw_files.specs.declared.stop.Stop.TheVariants.{Memory};
 
 use crate::copies::{ReadCopy, read_copy, share_a_byte};
-use crate::file_fault::{FileFault, value_or_say};
-use crate::file_texts::COPIES_OVERLAP;
+use crate::file_fault::FileFault;
 use crate::files::read_file;
-use crate::reasons::Explains;
+use crate::opened_devices::CopyFault;
+use crate::stop::Stop;
 use crate::system::System;
 use device_files::{OpenDevice, Unknown};
 use envcfg_core::{Config, ConfigFault, Place, parse_config};
 use envimg_core::{Geometry, Layout, Order};
-use fw_engines::OUT_OF_MEMORY;
-use fw_engines::streams::say;
 use std::alloc::{AllocError, Global};
-use std::io::Write;
 use std::rt::Files;
 use std::string::String;
 use text_parts::numbered_lines;
@@ -36,40 +34,37 @@ pub struct Source {
     pub second: Option<ReadCopy>,
 }
 
-/// Reads the configuration. A fault is reported on `errors`.
-pub fn config_or_say<X: System + AllocGlobal, E: Write>(
-    rt: &X,
-    path: &str,
-    explains: Explains,
-    errors: &mut E,
-) -> Option<Config>
-    ensures { MatchOption result (SaysSome (E.contents errors.old) (E.contents errors.new))
-        (λ config. AreSettingsAt (X.holds rt.now) path.now (config_view config) × (E.contents errors.new ≡ E.contents errors.old)) }
+/// Reads the configuration at a path.
+pub fn read_config<'a, X: System + AllocGlobal>(rt: &X, path: &'a str) -> Result<Config, Stop<'a>>
+    ensures read { IfOk result (λ config. AreSettingsAt (X.holds rt.now) path.now (config_view config)) }
+    ensures stopped { IfErr result (IsAbout path.now) }
 {
-    value_or_say(rt.alloc(), errors, explains, path, read_config(rt, path))
+    match config_at(rt, path) {
+        Ok(config) => Ok(config),
+        Err(fault) => Err(Stop::File(path, fault)),
+    }
 }
 
-/// Reads the copies that a configuration names. The first fault is reported on `errors`.
-pub fn read_source<X: Files + AllocGlobal, E: Write>(
+/// Reads the copies that a configuration names. The first fault counts.
+pub fn read_source<X: Files + AllocGlobal>(
     rt: &X,
     order: Order,
     config: Config,
-    explains: Explains,
-    errors: &mut E,
-) -> Option<Source>
-    ensures { MatchOption result (SaysSome (E.contents errors.old) (E.contents errors.new))
-        (λ source. IsSourceOf order config source × (overlap source.config source.first source.second ≡ false)
-        × (E.contents errors.new ≡ E.contents errors.old)) }
+) -> Result<Source, Stop<'static>>
+    ensures { IfOk result (λ source. IsSourceOf order config source × (overlap source.config source.first source.second ≡ false)) }
 {
-    // always `Some`: a configuration has no size that its layout refuses
-    let geometry = Geometry::with_order(config.layout, config.size, order)?;
-    let first = read_or_say(rt, &config.first, config.size, explains, errors)?;
-    let second = second_or_say(rt, &config, explains, errors)?;
+    let Some(geometry) = Geometry::with_order(config.layout, config.size, order) else {
+        // never: a configuration has no size that its layout refuses
+        return Err(Stop::Memory);
+    };
+    let (first, second) = match read_copies(rt, &config) {
+        Ok(copies) => copies,
+        Err(fault) => return Err(Stop::Copy(config, fault)),
+    };
     if overlap(&config, &first, &second) {
-        say(errors, COPIES_OVERLAP);
-        return None;
+        return Err(Stop::Overlap);
     }
-    Some(Source {
+    Ok(Source {
         config,
         geometry,
         first,
@@ -77,29 +72,20 @@ pub fn read_source<X: Files + AllocGlobal, E: Write>(
     })
 }
 
-/// A single image in memory, erased. If memory runs out, that is reported on `errors`.
-pub fn erased_or_say<E: Write>(
-    alloc: Global,
-    order: Order,
-    size: u32,
-    errors: &mut E,
-) -> Option<Source>
-    ensures { MatchOption result (SaysSome (E.contents errors.old) (E.contents errors.new))
-        (λ source. IsErased order size source × (E.contents errors.new ≡ E.contents errors.old)) }
+/// A single image in memory, erased.
+pub fn erased(alloc: Global, order: Order, size: u32) -> Result<Source, Stop<'static>>
+    ensures erased { IfOk result (IsErased order size) }
+    ensures stopped { IfErr result (λ stop. stop ≡ Memory) }
 {
-    // always `Some`: the size is one that a single image may have
-    let geometry = Geometry::with_order(Layout::Single, size, order)?;
-    match erased(alloc, geometry) {
-        Ok(source) => Some(source),
-        Err(_) => {
-            say(errors, OUT_OF_MEMORY);
-            None
-        }
+    match Geometry::with_order(Layout::Single, size, order) {
+        Some(geometry) => Ok(blank(alloc, geometry)?),
+        // never: the size is one that a single image may have
+        None => Err(Stop::Memory),
     }
 }
 
 /// An erased image of this size, which is in no device.
-fn erased(alloc: Global, geometry: Geometry) -> Result<Source, AllocError>
+fn blank(alloc: Global, geometry: Geometry) -> Result<Source, AllocError>
     ensures geometry { IfOk result (λ source. source.geometry ≡ geometry) }
     ensures first { IfOk result (λ source. source.first.bytes.items ≡ replicate geometry.size 255) }
     ensures second { IfOk result (λ source. source.second ≡ None) }
@@ -126,8 +112,8 @@ fn erased(alloc: Global, geometry: Geometry) -> Result<Source, AllocError>
     })
 }
 
-/// Reads the configuration.
-fn read_config<X: System + AllocGlobal>(rt: &X, path: &str) -> Result<Config, FileFault>
+/// The same, with its fault alone.
+fn config_at<X: System + AllocGlobal>(rt: &X, path: &str) -> Result<Config, FileFault>
     ensures { IfOk result (λ config. AreSettingsAt (X.holds rt.now) path.now (config_view config)) }
 {
     let text = read_file(rt, path)?;
@@ -156,37 +142,34 @@ fn is_yaml(text: &[u8]) -> bool {
     false
 }
 
-/// Reads a copy; a fault is reported on `errors`.
-fn read_or_say<X: Files + AllocGlobal, E: Write>(
+/// Reads the first copy, and the second, if there is one.
+fn read_copies<X: Files + AllocGlobal>(
+    rt: &X,
+    config: &Config,
+) -> Result<(ReadCopy, Option<ReadCopy>), CopyFault>
+    ensures { IfOk result (λ copies. is_some copies.1 ≡ is_some config.now.second) }
+{
+    let first = read_at(rt, &config.first, config.size, false)?;
+    let second = match &config.second {
+        None => None,
+        Some(place) => Some(read_at(rt, place, config.size, true)?),
+    };
+    Ok((first, second))
+}
+
+/// Reads a copy, the second one or not.
+fn read_at<X: Files + AllocGlobal>(
     rt: &X,
     place: &Place,
     size: u32,
-    explains: Explains,
-    errors: &mut E,
-) -> Option<ReadCopy>
-    ensures { MatchOption result (SaysSome (E.contents errors.old) (E.contents errors.new)) (λ _. E.contents errors.new ≡ E.contents errors.old) }
+    is_second: bool,
+) -> Result<ReadCopy, CopyFault>
+    ensures { IfErr result (λ fault. fault.is_second ≡ is_second) }
 {
     let mut device: Option<OpenDevice<X::File, Unknown>> = None;
-    let copy = read_copy(rt, place, size, &mut device);
-    value_or_say(rt.alloc(), errors, explains, place.device.as_str(), copy)
-}
-
-/// Reads the second copy, if there is one; a fault is reported on `errors`.
-fn second_or_say<X: Files + AllocGlobal, E: Write>(
-    rt: &X,
-    config: &Config,
-    explains: Explains,
-    errors: &mut E,
-) -> Option<Option<ReadCopy>>
-    ensures { MatchOption result (SaysSome (E.contents errors.old) (E.contents errors.new))
-        (λ copy. (is_some copy ≡ is_some config.now.second) × (E.contents errors.new ≡ E.contents errors.old)) }
-{
-    match &config.second {
-        None => Some(None),
-        Some(place) => {
-            let copy = read_or_say(rt, place, config.size, explains, errors)?;
-            Some(Some(copy))
-        }
+    match read_copy(rt, place, size, &mut device) {
+        Ok(copy) => Ok(copy),
+        Err(fault) => Err(CopyFault { is_second, fault }),
     }
 }
 

@@ -1,5 +1,5 @@
-//! What the program asks of its system besides std's files: files that are read or made whole, locks on open files, and
-//! whether somebody types the input.
+//! What the program asks of its system besides std's files: files that are read or made whole, locks on open files, the
+//! time, and whether somebody types the input or watches what is said.
 ghost use Rattle.std.specs.Prelude.{IfOk};
 ghost use Rattle.fw_files.specs.FileTexts.{GivesHeld, Holds, TakesWritten};
 
@@ -57,11 +57,17 @@ pub trait System: Files {
     /// Waits for that lock; false if the file can't be locked.
     fn lock(&self, file: &Self::File, hold: Hold) -> bool;
 
-    /// A writer to somebody who types the input.
+    /// A writer to somebody at a terminal.
     type Screen: Write + Drop;
 
-    /// That writer, if the input is typed at a terminal.
+    /// That to somebody who types the input, if it is typed at a terminal.
     fn screen(&self) -> Option<Self::Screen>;
+
+    /// That to somebody who watches standard error, if it is a terminal.
+    fn watched(&self) -> Option<Self::Screen>;
+
+    /// How much time has gone by since some moment; nothing if there is no clock.
+    fn time(&self) -> Duration;
 }
 
 impl System for HostRuntime {
@@ -111,6 +117,19 @@ impl System for HostRuntime {
         } else {
             None
         }
+    }
+
+    fn watched(&self) -> Option<Stderr> {
+        let errors = self.stderr();
+        if errors.is_terminal() {
+            Some(errors)
+        } else {
+            None
+        }
+    }
+
+    fn time(&self) -> Duration {
+        self.monotonic().unwrap_or(Duration::ZERO)
     }
 }
 

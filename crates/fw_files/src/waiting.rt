@@ -2,7 +2,6 @@
 ghost use Rattle.fw_engines.specs.Streams.{AppendsFront};
 ghost use Rattle.fw_files.specs.Locks.{waiting_line};
 
-use crate::file_texts::{WAITING, WHICH_IS_LOCKED};
 use crate::system::{Attempt, Hold, System};
 use fw_engines::streams::write_three;
 use std::io::Write;
@@ -22,7 +21,12 @@ pub(crate) fn wait_for_lock<X: System, E: Write>(
         Attempt::Locked => true,
         Attempt::Failed => false,
         Attempt::Held => {
-            let _ = write_three(errors, WAITING, path.as_bytes(), WHICH_IS_LOCKED);
+            let _ = write_three(
+                errors,
+                b"fwenv: waiting for ",
+                path.as_bytes(),
+                b", which another program has locked\n",
+            );
             rt.lock(file, hold)
         }
     }

@@ -1,83 +1,55 @@
 //! The copies that were read, if one of them is asked for by its number.
-ghost use Rattle.std.specs.Prelude.{◌≡◌, ◌⊎◌, IfOk, MatchBool, MatchOption, None, option_map, unwrap_or};
+ghost use Rattle.std.specs.Prelude.{◌≡◌, IfErr, IfOk, option_map, unwrap_or};
 ghost use Rattle.fw_files.specs.Source.{second_bytes};
-ghost use Rattle.fw_files.specs.WantedCopy.{ArePlaced, IsWantedIn, SaysRefusal, line_of, refusal_of};
-ghost use Rattle.fw_files.specs.Said.{message_of};
+ghost use Rattle.fw_files.specs.WantedCopy.{ArePlaced, IsRefusal, IsWantedIn, refusal_of, unless_good};
 ghost use Rattle.fw_arguments.specs.declared.wanted_copy.WantedCopy.TheVariants.{First, Second};
-ghost use Rattle.fw_engines.specs.Streams.{AppendsFront};
-ghost use Rattle.fw_engines.specs.declared.tool_end.StreamFault.TheVariants.{Memory};
 
 use crate::copies::ReadCopy;
-use crate::file_texts::{FIRST_NOT_GOOD, NEWLINE, NO_SECOND_COPY, SECOND_NOT_GOOD};
-use crate::opening::fault_of_copy;
 use crate::source::Source;
+use crate::stop::Stop;
 use envimg_core::{CopyState, check_copy};
 use fw_arguments::WantedCopy;
-use fw_engines::OUT_OF_MEMORY;
-use fw_engines::streams::{say, write_three};
 use std::alloc::{AllocError, Global};
-use std::io::Write;
 
-/// The copies with the one that is asked for in the place of each, so that it is current. If it isn't good, that is
-/// reported on `errors`, or that memory ran out.
-pub fn wanted_or_say<E: Write>(
+/// The copies with the one that is asked for in the place of each, so that it is current, if it is good.
+pub fn wanted_copies(
     alloc: Global,
     source: Source,
     wanted: WantedCopy,
-    errors: &mut E,
-) -> Option<Source>
-    ensures { MatchOption result (SaysRefusal (refusal_of wanted source.geometry source.first.bytes.items (second_bytes source.second)) (E.contents errors.old) (E.contents errors.new)
-        ⊎ AppendsFront (E.contents errors.old) (E.contents errors.new) (message_of Memory))
-        (λ found. IsWantedIn wanted source found × (E.contents errors.new ≡ E.contents errors.old)) }
+) -> Result<Source, Stop<'static>>
+    ensures found { IfOk result (IsWantedIn wanted source) }
+    ensures stopped { IfErr result
+        (λ stop. IsRefusal (refusal_of wanted source.geometry source.first.bytes.items (second_bytes source.second)) stop) }
 {
-    if !is_good_or_say(&source, wanted, errors) {
-        return None;
+    match refusal_of(&source, wanted) {
+        Some(stop) => Err(stop),
+        None => Ok(placed(alloc, source, wanted)?),
     }
-    match placed(alloc, source, wanted) {
-        Ok(found) => Some(found),
-        Err(_) => {
-            say(errors, OUT_OF_MEMORY);
-            None
+}
+
+/// Why that copy can't be taken, if it can't.
+fn refusal_of(source: &Source, wanted: WantedCopy) -> Option<Stop<'static>>
+    ensures { result ≡ refusal_of wanted source.now.geometry source.now.first.bytes.items (second_bytes source.now.second) }
+{
+    match (wanted, &source.second) {
+        (WantedCopy::Current, _) => None,
+        (WantedCopy::First, _) => {
+            unless_good(false, check_copy(&source.geometry, &source.first.bytes))
+        }
+        (WantedCopy::Second, None) => Some(Stop::NoSecondCopy),
+        (WantedCopy::Second, Some(copy)) => {
+            unless_good(true, check_copy(&source.geometry, &copy.bytes))
         }
     }
 }
 
-/// Whether that copy is good; if not, that is reported on `errors`.
-fn is_good_or_say<E: Write>(source: &Source, wanted: WantedCopy, errors: &mut E) -> bool
-    ensures { MatchBool result ((refusal_of wanted source.now.geometry source.now.first.bytes.items (second_bytes source.now.second) ≡ None)
-        × (E.contents errors.new ≡ E.contents errors.old))
-        (SaysRefusal (refusal_of wanted source.now.geometry source.now.first.bytes.items (second_bytes source.now.second)) (E.contents errors.old) (E.contents errors.new)) }
-{
-    match wanted {
-        WantedCopy::Current => true,
-        WantedCopy::First => {
-            let state = check_copy(&source.geometry, &source.first.bytes);
-            good_or_say(FIRST_NOT_GOOD, state, errors)
-        }
-        WantedCopy::Second => match &source.second {
-            None => {
-                say(errors, NO_SECOND_COPY);
-                false
-            }
-            Some(copy) => {
-                let state = check_copy(&source.geometry, &copy.bytes);
-                good_or_say(SECOND_NOT_GOOD, state, errors)
-            }
-        },
-    }
-}
-
-/// Whether this is the state of a good copy; if not, it is reported on `errors`.
-fn good_or_say<E: Write>(front: &[u8], state: CopyState, errors: &mut E) -> bool
-    ensures { MatchBool result ((line_of front.now state ≡ None) × (E.contents errors.new ≡ E.contents errors.old))
-        (SaysRefusal (line_of front.now state) (E.contents errors.old) (E.contents errors.new)) }
+/// Why a copy in this state can't be taken, if it can't.
+fn unless_good(is_second: bool, state: CopyState) -> Option<Stop<'static>>
+    ensures { result ≡ unless_good is_second state }
 {
     match state {
-        CopyState::Good(_) => true,
-        bad => {
-            let _ = write_three(errors, front, fault_of_copy(bad), NEWLINE);
-            false
-        }
+        CopyState::Good(_) => None,
+        bad => Some(Stop::BadCopy(is_second, bad)),
     }
 }
 

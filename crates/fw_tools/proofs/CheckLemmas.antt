@@ -21,7 +21,7 @@ use Rattle.fw_engines.specs.declared.tool_end.ToolEnd.{ToolEnd}
 use Rattle.fw_arguments.specs.Checks.{EnvironmentCheck, FileCheck}
 use Rattle.fw_tools.specs.CheckRuns.{AddsScriptAt, AreScriptsAt, ChecksFile, ChecksOver, IsHardwareGiven, IsScriptAt, check_status, unchecked}
 use Rattle.fw_files.specs.KnownNames.{AreKnownOf}
-use Rattle.fw_files.specs.Said.{Says}
+use Rattle.fw_tools.specs.Said.{Says}
 use Rattle.fw_files.specs.FileTexts.{Holds}
 
 -- 1 if something counts, else 0
@@ -65,39 +65,35 @@ status_small end small = by_fault end.fault
     by_fault (Some f) = omega arith
 
 pub check_small : (holds : Holds) (check : EnvironmentCheck) (session : Held) (old new : Writers) (status : ℕ) → ChecksOver holds check session old new status → status ≤ unchecked
-check_small holds check session old new status (inl stopped) = omega (arith, stopped.1)
-check_small holds check session old new status (inr (h, known, scripts, read, named, paths, (end, said, checks, says, ended))) =
+check_small holds check session old new status (h, known, scripts, read, named, paths, (end, said, checks, says, ended)) =
     omega (arith, ended, status_small end (checks_small (given_with check.shell h known) session.now.env check.choice check.names scripts old (record { output = new.output; errors = said }) end checks))
 
 pub file_check_small : (holds : Holds) (check : FileCheck) (old new : Writers) (status : ℕ) → ChecksFile holds check old new status → status ≤ unchecked
-file_check_small holds check old new status (inl stopped) = omega (arith, stopped.1)
-file_check_small holds check old new status (inr (h, scripts, given, read, (end, said, checks, says, ended))) =
+file_check_small holds check old new status (h, scripts, given, read, (end, said, checks, says, ended)) =
     omega (arith, ended, status_small end (file_checks_small (given_with check.shell h []) check.choice scripts old (record { output = new.output; errors = said }) end checks))
 
--- a check by these rules whose environment and names are these, with nothing printed before it
-pub checks-over : (holds : Holds) (check : EnvironmentCheck) (session : Held) (old new first : Writers) (status : ℕ) (h : Option Hardware) (known : List (List ℕ)) (given : Given) (env : Environment) (names : List (List ℕ)) (scripts given_scripts : List FileScript) (end : ToolEnd) (said : Option (List ℕ)) →
+-- a check by these rules whose environment and names are these
+pub checks-over : (holds : Holds) (check : EnvironmentCheck) (session : Held) (old new : Writers) (status : ℕ) (h : Option Hardware) (known : List (List ℕ)) (given : Given) (env : Environment) (names : List (List ℕ)) (scripts given_scripts : List FileScript) (end : ToolEnd) (said : Option (List ℕ)) →
     IsHardwareGiven holds check.stand_ins check.board h → AreKnownOf holds check.known known → AreScriptsAt holds check.scripts given_scripts →
-    Checks given env check.choice names scripts first (record { output = new.output; errors = said }) end → first ≡ old → env ≡ session.now.env →
+    Checks given env check.choice names scripts old (record { output = new.output; errors = said }) end → env ≡ session.now.env →
     given ≡ given_with check.shell h known → names ≡ check.names → scripts ≡ given_scripts → status ≡ check_status end → Says end.fault said new.errors → ChecksOver holds check session old new status
-checks-over holds check session old new first status h known given env names scripts given_scripts end said read named paths checks silent same_env same_rules same_names same_scripts ended says =
+checks-over holds check session old new status h known given env names scripts given_scripts end said read named paths checks same_env same_rules same_names same_scripts ended says =
     let after : Writers = record { output = new.output; errors = said } in
-    let zero = subst (λ f. Checks given env check.choice names scripts f after end) silent checks in
-    let one = subst (λ e. Checks given e check.choice names scripts old after end) same_env zero in
+    let one = subst (λ e. Checks given e check.choice names scripts old after end) same_env checks in
     let two = subst (λ g. Checks g session.now.env check.choice names scripts old after end) same_rules one in
     let three = subst (λ ns. Checks (given_with check.shell h known) session.now.env check.choice ns scripts old after end) same_names two in
     let four = subst (λ ss. Checks (given_with check.shell h known) session.now.env check.choice check.names ss old after end) same_scripts three in
-    inr (h, known, given_scripts, read, named, paths, (end, said, four, says, ended))
+    (h, known, given_scripts, read, named, paths, (end, said, four, says, ended))
 
 -- the same of a check of scripts in files
-pub file-checks-over : (holds : Holds) (check : FileCheck) (old new first : Writers) (status : ℕ) (h : Option Hardware) (given : Given) (scripts given_scripts : List FileScript) (end : ToolEnd) (said : Option (List ℕ)) →
-    IsHardwareGiven holds check.stand_ins check.board h → AreScriptsAt holds check.paths given_scripts → ChecksFiles given check.choice scripts first (record { output = new.output; errors = said }) end → first ≡ old →
+pub file-checks-over : (holds : Holds) (check : FileCheck) (old new : Writers) (status : ℕ) (h : Option Hardware) (given : Given) (scripts given_scripts : List FileScript) (end : ToolEnd) (said : Option (List ℕ)) →
+    IsHardwareGiven holds check.stand_ins check.board h → AreScriptsAt holds check.paths given_scripts → ChecksFiles given check.choice scripts old (record { output = new.output; errors = said }) end →
     given ≡ given_with check.shell h [] → scripts ≡ given_scripts → status ≡ check_status end → Says end.fault said new.errors → ChecksFile holds check old new status
-file-checks-over holds check old new first status h given scripts given_scripts end said read paths checks silent same_rules same_scripts ended says =
+file-checks-over holds check old new status h given scripts given_scripts end said read paths checks same_rules same_scripts ended says =
     let after : Writers = record { output = new.output; errors = said } in
-    let zero = subst (λ f. ChecksFiles given check.choice scripts f after end) silent checks in
-    let one = subst (λ g. ChecksFiles g check.choice scripts old after end) same_rules zero in
+    let one = subst (λ g. ChecksFiles g check.choice scripts old after end) same_rules checks in
     let two = subst (λ ss. ChecksFiles (given_with check.shell h []) check.choice ss old after end) same_scripts one in
-    inr (h, given_scripts, read, paths, (end, said, two, says, ended))
+    (h, given_scripts, read, paths, (end, said, two, says, ended))
 
 -- ---- scripts of files
 

@@ -13,7 +13,6 @@ status_small path [] = omega arith
 status_small path (one ∷ others) = omega arith
 
 pub finds_small : (holds : Holds) (path : List ℕ) (old new : Writers) (status : ℕ) → Finds holds path old new status → status ≤ 1
-finds_small holds path old new status (inl stopped) = omega (arith, stopped.1)
-finds_small holds path old new status (inr (dump, held, (end, inl prints, says, is))) =
+finds_small holds path old new status (dump, held, (end, inl prints, says, is)) =
     omega (arith, is, text_small end old.output new.output (dump_report path dump).text (dump_report path dump).status (status_small path (environments dump)) prints)
-finds_small holds path old new status (inr (dump, held, (end, inr (fault, kept, one), says, is))) = omega (arith, is, one)
+finds_small holds path old new status (dump, held, (end, inr (fault, kept, one), says, is)) = omega (arith, is, one)

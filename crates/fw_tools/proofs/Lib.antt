@@ -4,7 +4,10 @@ mod EntryPointLemmas
 mod FindLemmas
 mod HelpLemmas
 mod NewImageLemmas
+mod CopyReportLemmas
 mod PowerOnLemmas
+mod SaidLemmas
+mod ScriptRunLemmas
 mod SessionRunLemmas
 pub mod Rows
 pub mod SameTexts

@@ -1,5 +1,6 @@
 -- What a save over erased copies leaves, and the status of a new image.
-use Rattle.std.proofs.Common.{Bor, option_map, ◌≡◌, ◌≤◌, ℕ, Bool, List, Option, Some, None, inl, inr, arith, refl, sym, ap, ◌∙◌, subst}
+use Rattle.std.specs.Prelude.{MatchResult}
+use Rattle.std.proofs.Common.{Bor, option_map, ◌≡◌, ◌≤◌, ℕ, Bool, List, Option, Some, None, Result, Ok, Err, inl, inr, arith, refl, sym, ap, ◌∙◌, subst}
 use Rattle.env_session.specs.Session.{Held, State, bytes_of, opened, opening_choice, opening_env, saved, saved_flag, saved_side, with_copy}
 use Rattle.env_session.specs.declared.session.Stored.{Stored}
 use Rattle.envimg_core.specs.Geometry.{Shape, room_of}
@@ -12,10 +13,10 @@ use Rattle.envvars_core.specs.Variables.{Contents}
 use Rattle.fw_engines.specs.Streams.{Writers}
 use Rattle.fw_engines.specs.Tool.{PrintsText}
 use Rattle.fw_engines.specs.declared.tool_end.ToolEnd.{ToolEnd}
-use Rattle.fw_files.specs.Said.{Says}
+use Rattle.fw_tools.specs.Said.{Says}
 use Rattle.fw_files.specs.Source.{AreDefaultsAt}
 use Rattle.fw_tools.proofs.CheckLemmas.{text_small}
-use Rattle.fw_tools.specs.NewImages.{MakesImage, PutsOut, PutsOutOrStops, erased_second, image_bytes, placed, shape_for}
+use Rattle.fw_tools.specs.NewImages.{MakesImage, PutsOut, erased_second, image_bytes, placed, shape_for}
 use Rattle.fw_tools.specs.SavedOnce.{IsSavedBlank, IsSavedOnce}
 use Rattle.fw_arguments.specs.ImageRequests.{ImageRequest}
 use Rattle.fw_files.specs.FileTexts.{Holds}
@@ -64,33 +65,28 @@ saved_so h erased stored shape vars is same second_is saved_blank =
 
 -- ---- what is printed and said
 
--- the image that is put out is that of the text's variables
-pub made_image : (holds wrote : Holds) (asked : ImageRequest) (old new : Writers) (said : Option (List ℕ)) (shape : Shape) (vars : Contents) (image : List ℕ) (status : ℕ) →
-    shape ≡ shape_for asked → AreDefaultsAt holds asked.text.path asked.text.form (room_of shape) vars → image ≡ image_bytes shape asked.both vars.env → said ≡ old.errors →
-    PutsOutOrStops wrote asked.output image (record { output = old.output; errors = said }) new status → MakesImage holds wrote asked old new status
-made_image holds wrote asked old new said shape vars image status is are made silent puts =
-    put_out (subst (λ e. PutsOutOrStops wrote asked.output image (record { output = old.output; errors = e }) new status) silent puts)
-  where
-    put_out : PutsOutOrStops wrote asked.output image old new status → MakesImage holds wrote asked old new status
-    put_out (inl stopped) = inl stopped
-    put_out (inr puts) =
-        let out = subst (λ bytes. PutsOut wrote asked.output bytes old new status) (made ∙ ap (λ s. image_bytes s asked.both vars.env) is) puts in
-        inr (vars, subst (λ s. AreDefaultsAt holds asked.text.path asked.text.form (room_of s) vars) is are, out)
+-- the image that is put out is that of the text's variables, or it ended before
+pub made_image : {E : Type 0} (holds wrote : Holds) (asked : ImageRequest) (old new : Writers) (shape : Shape) (vars : Contents) (image : List ℕ) (r : Result ℕ E) (Q : E → Type 0) →
+    shape ≡ shape_for asked → AreDefaultsAt holds asked.text.path asked.text.form (room_of shape) vars → image ≡ image_bytes shape asked.both vars.env →
+    MatchResult r (PutsOut wrote asked.output image old new) Q → MatchResult r (MakesImage holds wrote asked old new) Q
+made_image holds wrote asked old new shape vars image (Err e) Q is are made puts = puts
+made_image holds wrote asked old new shape vars image (Ok status) Q is are made puts =
+    let out = subst (λ bytes. PutsOut wrote asked.output bytes old new status) (made ∙ ap (λ s. image_bytes s asked.both vars.env) is) puts in
+    (vars, subst (λ s. AreDefaultsAt holds asked.text.path asked.text.form (room_of s) vars) is are, out)
 
 -- the image that is printed
 pub printed_out : (wrote : Holds) (output : Option (Bor (List ℕ))) (image : List ℕ) (old new : Writers) (status : ℕ) (end : ToolEnd) → output ≡ None →
     PrintsText old.output new.output image 0 end → Says end.fault old.errors new.errors → status ≡ end.status →
-    PutsOutOrStops wrote (option_map (λ p. p.now) output) image old new status
+    PutsOut wrote (option_map (λ p. p.now) output) image old new status
 printed_out wrote output image old new status end none prints says ends =
-    subst (λ (o : Option (Bor (List ℕ))). PutsOutOrStops wrote (option_map (λ p. p.now) o) image old new status) (sym none) (inr (end, prints, says, ends))
+    subst (λ (o : Option (Bor (List ℕ))). PutsOut wrote (option_map (λ p. p.now) o) image old new status) (sym none) (end, prints, says, ends)
 
 puts_small : (wrote : Holds) (output : Option (List ℕ)) (image : List ℕ) (old new : Writers) (status : ℕ) → PutsOut wrote output image old new status → status ≤ 1
 puts_small wrote None image old new status (end, prints, says, is) = omega (arith, is, text_small end old.output new.output image 0 (omega arith) prints)
 puts_small wrote (Some path) image old new status (writes, same, is) = omega (arith, is)
 
 pub image_small : (holds wrote : Holds) (asked : ImageRequest) (old new : Writers) (status : ℕ) → MakesImage holds wrote asked old new status → status ≤ 1
-image_small holds wrote asked old new status (inl stopped) = omega (arith, stopped.1)
-image_small holds wrote asked old new status (inr (vars, are, puts)) = puts_small wrote asked.output _ old new status puts
+image_small holds wrote asked old new status (vars, are, puts) = puts_small wrote asked.output _ old new status puts
 
 -- what is placed of them is the new image
 pub placed_so : (shape : Shape) (vars : Contents) (both : Bool) (stored : Stored) (image : List ℕ) → IsSavedOnce shape vars stored →

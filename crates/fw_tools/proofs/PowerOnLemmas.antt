@@ -7,11 +7,7 @@ use Rattle.envimg_core.specs.Geometry.{Shape, room_of}
 use Rattle.envvars_core.specs.Variables.{Contents}
 use Rattle.hush_syntax.specs.Grammar.{Chains}
 use Rattle.hush_syntax.specs.Reading.{read_in}
-use Rattle.hush_syntax.specs.Scripts.{tree_of}
 use Rattle.hush_syntax.specs.declared.nodes.Bodies.{Bodies}
-use Rattle.hush_syntax.specs.declared.script.Script.{Script}
-use Rattle.fw_files.specs.Said.{SaysSome}
-use Rattle.fw_tools.specs.ScriptRuns.{Refuses}
 use Rattle.hush_commands.specs.Hardware.{Hardware}
 use Rattle.hush_run.specs.Meaning.{Rules, bodies_of}
 use Rattle.boot_search.specs.declared.survey_lines.BootText.{BootText}
@@ -26,7 +22,6 @@ use Rattle.fw_engines.specs.Streams.{Writers}
 use Rattle.fw_tools.specs.PowerOns.{AddsScriptOf, AreScriptsOf, BootsOver, IsScriptOf, IsToldOf, one_copy, power_for}
 use Rattle.fw_tools.proofs.CheckLemmas.{text_small}
 use Rattle.fw_files.specs.FileTexts.{Holds}
-use Rattle.fw_files.specs.Files.{IsTextAt}
 
 lost_small : (lost : Bool) → (if lost then 1 else 0) ≤ 1
 lost_small true = omega arith
@@ -37,12 +32,11 @@ known_small true lost = lost_small lost
 known_small false lost = omega arith
 
 pub boots_small : (holds : Holds) (asked : PowerOns) (session : Held) (old new : Writers) (status : ℕ) → BootsOver holds asked session old new status → status ≤ 1
-boots_small holds asked session old new status (inl stopped) = omega (arith, stopped.1)
-boots_small holds asked session old new status (inr (given, after, is, are, (end, inl (told, (tree, read, (survey, of, text, by)), prints), says, same))) =
+boots_small holds asked session old new status (given, after, is, are, (end, inl (told, (tree, read, (survey, of, text, by)), prints), says, same)) =
     let t = told_of survey in
     let small = subst (λ n. n ≤ 1) (sym by) (known_small t.complete (nat_lt 0 (unmarked t.boots))) in
     omega (arith, same, text_small end old.output new.output told.text.items told.status small prints)
-boots_small holds asked session old new status (inr (given, after, is, are, (end, inr (fault, kept, one), says, same))) = omega (arith, same, one)
+boots_small holds asked session old new status (given, after, is, are, (end, inr (fault, kept, one), says, same)) = omega (arith, same, one)
 
 -- one copy has the room of the session's
 pub same_room : (shape : Shape) → room_of (one_copy shape) ≡ room_of shape
@@ -61,14 +55,6 @@ pub tells : (asked : PowerOns) (given : Hardware) (after : List (Option Chains))
     IfOk r (IsToldOf asked given after session)
 tells asked given after session tree power (Ok told) reads is told_as = (tree, reads, subst (λ p. BootsAs asked.dot p asked.ways told) is told_as)
 tells asked given after session tree power (Err e) reads is told_as = tt
-
--- a script of a file, or a text that is none is reported
-pub refused : (holds : Holds) (bodies : Bodies) (path name text : List ℕ) (old mid new : Option (List ℕ)) (r : Option Script) → IsTextAt holds path text → mid ≡ old →
-    MatchOption r (Refuses bodies name text mid new) (λ script. (read_in bodies text ≡ Some (tree_of script)) × (new ≡ mid)) →
-    MatchOption r (SaysSome old new) (λ script. IsScriptOf holds bodies path (tree_of script) × (new ≡ old))
-refused holds bodies path name text old mid new (Some script) held same (read, kept) = ((text, held, read), kept ∙ same)
-refused holds bodies path name text old mid new None held same (inl (front, rest, is, appends)) = subst (λ e. SaysSome e new) same (front, appends)
-refused holds bodies path name text old mid new None held same (inr (fault, unread, of, (front, rest, is, appends))) = subst (λ e. SaysSome e new) same (front, appends)
 
 -- ---- scripts of files
 

@@ -9,21 +9,15 @@ use Rattle.fw_files.specs.Copies.{warned_of}
 use Rattle.fw_files.specs.Locks.{HasWaited}
 use Rattle.fw_files.specs.declared.source.Source.{Source}
 use Rattle.env_session.specs.declared.session.Stored.{Stored}
-use Rattle.fw_files.specs.Said.{SaysSome}
+use Rattle.fw_tools.specs.Said.{SaysSome}
 use Rattle.fw_files.specs.WrittenBack.{AreKept, AreLeft, AreSafe, Devices}
 use Rattle.envimg_core.specs.declared.choice.Choice.TheVariants.{Second}
-use Rattle.fw_files.proofs.SaidLemmas.{said_then, waited_said}
+use Rattle.fw_tools.proofs.SaidLemmas.{said_then, waited_said}
 use Rattle.fw_tools.specs.SessionRun.{ClosesDryRun, Reports, TriesOver, TriesWith, WaitsAndWarns, text_for}
 use Rattle.fw_tools.specs.WantedHardware.{IsHardwareOf}
 use Rattle.fw_engines.specs.Streams.{AppendsFront, Streams}
 use Rattle.fw_tools.proofs.WarnLemmas.{may_warn}
 use Rattle.fw_files.specs.FileTexts.{Holds}
-
-pub tried_over : (holds : Holds) (run : DryRun) (source : Source) (session : Held) (devices : Devices) (old : Streams) (given : Hardware) (errors : Option (List ℕ)) (new : Streams) (status : ℕ) →
-    IsHardwareOf holds false run given → errors ≡ old.errors → TriesWith run given source session devices (record { input = old.input; output = old.output; errors = errors }) new status →
-    TriesOver holds run source session devices old new status
-tried_over holds run source session devices old given errors new status is same tries =
-    inr (given, is, subst (λ e. TriesWith run given source session devices (record { input = old.input; output = old.output; errors = e }) new status) same tries)
 
 -- the copies are left as they are
 pub reported : (kept : Bool) (end : SessionEnding) (source : Source) (after : Held) (devices : Devices) (old new : Option (List ℕ)) (status : ℕ) → kept ≡ false →

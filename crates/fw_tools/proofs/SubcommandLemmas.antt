@@ -1,6 +1,6 @@
 -- What a subcommand does, put together, and its status.
 use Rattle.std.proofs.Common.{◌≡◌, ◌⊎◌, ◌≤◌, ℕ, zero, suc, Bool, true, false, List, [], ◌∷◌, ◌++◌, Option, Some, None, inl, inr, refl, sym, ap, ◌∙◌, subst, arith}
-use Rattle.std.specs.Prelude.{◌==◌, ◌&&◌, not, is_some, option_map, map, MatchOption, if◌then◌else◌, length, unwrap_or}
+use Rattle.std.specs.Prelude.{◌==◌, ◌&&◌, not, is_some, option_map, map, MatchOption, MatchResult, IfOk, IfErr, Result, Ok, Err, if◌then◌else◌, length}
 use Rattle.env_session.specs.Requests.{entry_in, refusal_in}
 use Rattle.std.specs.FinMap as env
 use Rattle.env_session.specs.Session.{Held, last_changed_names, written}
@@ -15,14 +15,18 @@ use Rattle.envimg_core.specs.declared.choice.Choice.{Choice}
 use Rattle.envimg_core.specs.declared.choice.Choice.TheVariants as choices
 use Rattle.envimg_core.specs.declared.geometry.Order.{Order}
 use Rattle.envvars_core.specs.declared.refusals.Refusal.{Refusal}
-use Rattle.fw_files.specs.Opening.{AreCopies, AreCopiesIn, AreWantedIn, IsAccepted, IsOpening}
+use Rattle.fw_files.specs.Opening.{AreCopies, AreCopiesIn, AreWantedIn}
 use Rattle.fw_tools.specs.CheckRuns.{unchecked}
 use Rattle.fw_tools.specs.Closing.{Closes}
-use Rattle.fw_tools.specs.Subcommands.{Acts, DoesJob, Scene, Uses, UsesTool, is_kept, is_left, printed_so, stopped_status}
-use Rattle.fw_files.specs.WrittenBack.{Devices}
-use Rattle.fw_arguments.specs.Calls.{Boots, Call, Checks, Defaults, Job, Runs, Task, Tool, Tries, changes, job_view, spares}
+use Rattle.fw_tools.specs.Subcommands.{Acts, DoesJob, HaltsAt, HaltsCall, HaltsJob, OpensSession, Called, Done, Halts, Scene, UsesSession, UsesTool, is_kept, is_left, printed_so, stopped_job, stopped_status}
+use Rattle.fw_files.specs.WrittenBack.{AreLeft, Devices}
+use Rattle.fw_arguments.specs.Calls.{Boots, Call, Checks, Defaults, Job, Runs, Task, Tool, Tries, changes, job_view}
 use Rattle.fw_arguments.specs.declared.job.Job as asked_jobs
-use Rattle.fw_tools.proofs.CheckLemmas.{check_small}
+use Rattle.fw_arguments.specs.Report.{Asked, Check, Find, Look, Make, Work}
+use Rattle.fw_tools.proofs.CheckLemmas.{check_small, file_check_small}
+use Rattle.fw_tools.proofs.CopyReportLemmas.{reports_small}
+use Rattle.fw_tools.proofs.FindLemmas.{finds_small}
+use Rattle.fw_tools.proofs.NewImageLemmas.{image_small}
 use Rattle.fw_tools.proofs.PowerOnLemmas.{boots_small}
 use Rattle.fw_arguments.specs.DryRuns.{ScriptRun}
 use Rattle.fw_tools.specs.ScriptRuns as ScriptRuns
@@ -32,10 +36,15 @@ use Rattle.hush_run.specs.declared.outcome.Course.{Course}
 use Rattle.fw_files.specs.Locks.{HasWaited}
 use Rattle.fw_arguments.specs.declared.wanted_copy.WantedCopy.{WantedCopy}
 use Rattle.fw_engines.specs.Streams.{AppendsFront}
-use Rattle.fw_files.proofs.SaidLemmas.{front_said}
-use Rattle.fw_files.specs.Said.{SaysSome}
-use Rattle.fw_files.specs.WantedCopy.{IsWantedIn, SaysRefusal, refusal_of}
-use Rattle.fw_files.specs.Source.{AreSettingsAt, IsSourceOf, IsTaken, second_bytes}
+use Rattle.fw_files.proofs.SaidLemmas.{silent_front}
+use Rattle.fw_files.specs.WantedCopy.{IsWantedIn, refusal_of}
+use Rattle.fw_files.specs.Source.{AreSettingsAt, IsSourceOf, second_bytes, warned, warning}
+use Rattle.fw_tools.specs.HaltLines.{SaysHalt}
+use Rattle.fw_tools.specs.Reasons.{explains_asked}
+use Rattle.fw_tools.specs.ScriptRuns.{IsNoScript}
+use Rattle.fw_tools.specs.declared.explains.Explains.{Explains}
+use Rattle.fw_tools.specs.declared.halt.Halt.{Halt}
+use Rattle.fw_tools.proofs.ScriptRunLemmas.{no_script}
 use Rattle.fw_files.specs.declared.source.Source.{Source}
 use Rattle.fw_arguments.specs.declared.task.Printing.{Printing}
 use Rattle.fw_arguments.specs.declared.task.Printing.TheVariants.{Lines, OneValue, Values}
@@ -80,26 +89,60 @@ wanted_so holds config image order wanted read source copies (good, placed) = (
   placed.second,
 )
 
--- what is said of a copy that can't be taken
-pub refusal_said : (line a b : Option (List ℕ)) (text : List ℕ) → SaysRefusal line a b ⊎ AppendsFront a b text → SaysSome a b
-refusal_said None a b text (inl never) = absurd never
-refusal_said (Some line) a b text (inl said) = front_said a b line said
-refusal_said line a b text (inr said) = front_said a b text said
+-- a session was opened, with or without a warning, and worked on, or not
+warned_is : (whole : Bool) (c : Choice) → (warned whole c ≡ []) ⊎ (warned whole c ≡ warning choices.Neither)
+warned_is true c = inl refl
+warned_is false choices.First = inl refl
+warned_is false choices.Second = inl refl
+warned_is false choices.Neither = inr refl
 
--- a session was opened, with or without a warning, and worked on
-pub opened_session : (holds : Holds) (call : Call) (asked : Defaults) (devices : Devices) (old : Streams) (waited : Option (List ℕ)) (source : Source) (session : Held) (warned : Option (List ℕ)) (new : Streams) (status : ℕ) →
-    HasWaited old.errors waited → IsTaken session.now.current call.defaults asked → IsOpening holds call.config call.image call.order call.copy (spares call) asked source session →
-    IsAccepted asked session waited warned →
-    DoesJob holds call.only_changes call.job source session devices (record { input = old.input; output = old.output; errors = warned }) new status → Uses holds call devices old new status
-opened_session holds call asked devices old waited source session warned new status has found opening accepted does =
-    inr (waited, asked, source, session, warned, has, found, opening, accepted, does)
+pub worked : (holds : Holds) (call : Call) (devices : Devices) (old new : Streams) (asked : Defaults) (source : Source) (session : Held) (said : Option (List ℕ)) (r : Result ℕ Halt) →
+    OpensSession holds call old.errors asked source session said →
+    MatchResult r (DoesJob holds call.only_changes call.job source session devices (record { input = old.input; output = old.output; errors = said }) new)
+    (λ h. HaltsJob holds call.job h devices (record { input = old.input; output = old.output; errors = said }) new) →
+    MatchResult r (UsesSession holds call devices old new) (λ h. HaltsCall holds call h devices old new)
+worked holds call devices old new asked source session said (Ok status) opens does = (asked, source, session, said, opens, does)
+worked holds call devices old new asked source session said (Err h) opens (halts, unread, (silent, same), left) =
+    let text = warned call.defaults.whole session.now.current in
+    (halts, unread, silent, left, (opens.waited, opens.waits, (text, warned_is call.defaults.whole session.now.current, subst (λ e. AppendsFront opens.waited e text) (sym same) opens.warns)))
+
+no_script_at : (holds : Holds) (job : Job) (h : Halt) → IsNoScript h → HaltsAt holds job h
+no_script_at holds (Runs run) h none = no_script holds run h none
+no_script_at holds (Tool task) h none = tt
+no_script_at holds (Tries run) h none = tt
+no_script_at holds (Boots power_ons) h none = tt
+no_script_at holds (Checks check) h none = tt
+
+-- or it was not opened
+pub halted : (holds : Holds) (call : Call) (devices : Devices) (old new : Streams) (h : Halt) → IsNoScript h → new.input ≡ old.input → new.output ≡ old.output → AreLeft devices →
+    HasWaited old.errors new.errors → HaltsCall holds call h devices old new
+halted holds call devices old new h none unread silent left waited = (no_script_at holds call.job h none, unread, silent, left, (new.errors, waited, ([], inl refl, silent_front new.errors [])))
+
+pub halted_as : (r : Result ℕ Halt) (h : Halt) (P : ℕ → Type 0) (Q : Halt → Type 0) → r ≡ Err h → Q h → MatchResult r P Q
+halted_as r h P Q is halts = subst (λ x. MatchResult x P Q) (sym is) halts
+
+-- and that is reported
+pub called : (holds wrote : Holds) (refused : ℕ) (asked : Asked) (devices : Devices) (old : Streams) (input output before after : Option (List ℕ)) (r : Result ℕ Halt) (how : Explains) (status stopped : ℕ) →
+    how ≡ explains_asked asked → stopped ≡ stopped_status asked →
+    MatchResult r (Done holds wrote asked devices old (record { input = input; output = output; errors = before }))
+    (λ h. Halts holds asked h devices old (record { input = input; output = output; errors = before })) →
+    IfOk r (λ s. (status ≡ s) × (after ≡ before)) → IfErr r (λ h. (status ≡ stopped) × SaysHalt how h before after) →
+    Called holds wrote refused (Ok asked) devices old (record { input = input; output = output; errors = after }) status
+called holds wrote refused asked devices old input output before after (Ok s) how status stopped by of done (is, same) said =
+    inr (subst (Done holds wrote asked devices old (record { input = input; output = output; errors = after })) (sym is) (subst (λ e. Done holds wrote asked devices old (record { input = input; output = output; errors = e }) s) (sym same) done))
+called holds wrote refused asked devices old input output before after (Err h) how status stopped by of halts done (is, said) =
+    inl (h, record { input = input; output = output; errors = before }, halts, refl, refl, subst (λ x. SaysHalt x h before after) by said, is ∙ of)
 
 -- what was done for a job, once it is known which that is
-pub job_done : (holds : Holds) (only_changes : Bool) (job known : asked_jobs.Job) (source : Source) (session : Held) (devices : Devices) (old new : Streams) (r : Option ℕ) → job ≡ known →
-    DoesJob holds only_changes (job_view known) source session devices old new (unwrap_or r (stopped_status (job_view known))) →
-    DoesJob holds only_changes (job_view job) source session devices old new (unwrap_or r (stopped_status (job_view job)))
+pub job_done : (holds : Holds) (only_changes : Bool) (job known : asked_jobs.Job) (source : Source) (session : Held) (devices : Devices) (old new : Streams) (r : Result ℕ Halt) → job ≡ known →
+    MatchResult r (DoesJob holds only_changes (job_view known) source session devices old new) (λ h. HaltsJob holds (job_view known) h devices old new) →
+    MatchResult r (DoesJob holds only_changes (job_view job) source session devices old new) (λ h. HaltsJob holds (job_view job) h devices old new)
 job_done holds only_changes job known source session devices old new r is does =
-    subst (λ (j : asked_jobs.Job). DoesJob holds only_changes (job_view j) source session devices old new (unwrap_or r (stopped_status (job_view j)))) (sym is) does
+    subst (λ (j : asked_jobs.Job). MatchResult r (DoesJob holds only_changes (job_view j) source session devices old new) (λ h. HaltsJob holds (job_view j) h devices old new)) (sym is) does
+
+pub either : {T E : Type 0} (r : Result T E) (P P' : T → Type 0) (Q Q' : E → Type 0) → ((t : T) → P t → P' t) → ((e : E) → Q e → Q' e) → MatchResult r P Q → MatchResult r P' Q'
+either (Ok t) P P' Q Q' p q is = p t is
+either (Err e) P P' Q Q' p q is = q e is
 
 -- by what a task is known to change
 pub kept_if : (r only_changes changing : Bool) (current : Choice) (touched : ℕ) (b : Bool) (task : Task) (opened after : Held) → r ≡ is_left changing only_changes current touched →
@@ -116,7 +159,7 @@ pub used_tool : (holds : Holds) (only_changes kept : Bool) (task : Task) (source
     Closes kept choices.Second source after.session end devices after.writers.errors errors status →
     UsesTool holds only_changes task source session devices old (record { output = after.writers.output; errors = errors }) status
 used_tool holds only_changes kept task source session devices old after end errors status acts is closes =
-    inr (after, end, acts, refl, subst (λ k. Closes k choices.Second source after.session end devices after.writers.errors errors status) is closes)
+    (after, end, acts, refl, subst (λ k. Closes k choices.Second source after.session end devices after.writers.errors errors status) is closes)
 
 -- each status is 0 or 1
 printed_small : (fault : Option StreamFault) (old new : Writers) (texts : Texts) (status : ℕ) → texts.status ≤ 1 → Printed fault old new texts status → status ≤ 1
@@ -193,19 +236,18 @@ closes_small false last source session end devices old new status small (said, i
 
 tool_small : (holds : Holds) (only_changes : Bool) (task : Task) (source : Source) (session : Held) (devices : Devices) (old new : Writers) (status : ℕ) →
     UsesTool holds only_changes task source session devices old new status → status ≤ 1
-tool_small holds only_changes task source session devices old new status (inl (stopped, left)) = omega (arith, stopped.1)
-tool_small holds only_changes task source session devices old new status (inr (after, end, acts, same, closes)) =
+tool_small holds only_changes task source session devices old new status (after, end, acts, same, closes) =
     closes_small _ _ source after.session end devices _ _ status (acts_small holds task _ after end acts) closes
 
-reports_small : (text : Option (List ℕ)) (old new : Option (List ℕ)) (status : ℕ) → Reports text old new status → status ≤ 1
-reports_small None old new status (same, is) = omega (arith, is)
-reports_small (Some text) old new status (said, is) = omega (arith, is)
+ending_small : (text : Option (List ℕ)) (old new : Option (List ℕ)) (status : ℕ) → Reports text old new status → status ≤ 1
+ending_small None old new status (same, is) = omega (arith, is)
+ending_small (Some text) old new status (said, is) = omega (arith, is)
 
 leaves_small : (kept : Bool) (end : SessionEnding) (source : Source) (after : Held) (devices : Devices) (old new : Option (List ℕ)) (status : ℕ) →
     ClosesDryRun kept end source after devices old new status → status ≤ 1
 leaves_small true end source after devices old new status (safe, inl (said, is)) = omega (arith, is)
-leaves_small true end source after devices old new status (safe, inr (said, says, reports, kept)) = reports_small (text_for end) said new status reports
-leaves_small false end source after devices old new status (reports, left) = reports_small (text_for end) old new status reports
+leaves_small true end source after devices old new status (safe, inr (said, says, reports, kept)) = ending_small (text_for end) said new status reports
+leaves_small false end source after devices old new status (reports, left) = ending_small (text_for end) old new status reports
 
 run_small : (fault : Option StreamFault) (status : ℕ) (old new : Writers) (texts : Texts) → texts.status ≤ 1 →
     MatchOption fault (Writes old new texts × (status ≡ texts.status)) (λ f. (f ≡ Write) × WritesPart old new texts × (status ≡ 1)) → status ≤ 1
@@ -227,34 +269,45 @@ texts_small must_boot course =
     either_small (not (is_well outcome.ending outcome.status)) badly (if unbooted then without else well) (omega arith) (either_small unbooted without well (omega arith) (omega arith))
 
 script_run_small : (holds : Holds) (run : ScriptRun) (source : Source) (session : Held) (devices : Devices) (old new : Writers) (status : ℕ) → RunsOver holds run source session devices old new status → status ≤ 1
-script_run_small holds run source session devices old new status (inl (stopped, left)) = omega (arith, stopped.1)
-script_run_small holds run source session devices old new status (inr (stand_ins, text, stand, is, inl (same, refuses, one, left))) = omega (arith, one)
-script_run_small holds run source session devices old new status (inr (stand_ins, text, stand, is, inr (tree, reads, r))) =
+script_run_small holds run source session devices old new status (given, tree, stand, is, r) =
     closes_small (ScriptRuns.is_kept run.dry.write r.2) _ source r.0 r.2.end devices r.1 new.errors status
     (run_small r.2.end.fault r.2.end.status (record { output = old.output; errors = r.3.0 }) (record { output = new.output; errors = r.1 }) (course_texts run.must_boot r.3.2.0) (texts_small run.must_boot r.3.2.0) r.3.2.5)
     r.4
 
 job_small : (holds : Holds) (only_changes : Bool) (job : Job) (source : Source) (session : Held) (devices : Devices) (old new : Streams) (status : ℕ) →
-    DoesJob holds only_changes job source session devices old new status → status ≤ stopped_status job
+    DoesJob holds only_changes job source session devices old new status → status ≤ stopped_job job
 job_small holds only_changes (Tool task) source session devices old new status (unread, uses) = tool_small holds only_changes task source session devices _ _ status uses
-job_small holds only_changes (Tries run) source session devices old new status (inl (unread, stopped, left)) = omega (arith, stopped.1)
-job_small holds only_changes (Tries run) source session devices old new status (inr (stand_ins, stand, tries)) =
+job_small holds only_changes (Tries run) source session devices old new status (stand_ins, stand, tries) =
     leaves_small (SessionRun.is_kept run.write tries.0) tries.0 source tries.3.held devices _ _ status tries.5
 job_small holds only_changes (Runs run) source session devices old new status (unread, runs) = script_run_small holds run source session devices _ _ status runs
 job_small holds only_changes (Boots power_ons) source session devices old new status (unread, boots, left) = boots_small holds power_ons session _ _ status boots
 job_small holds only_changes (Checks check) source session devices old new status (unread, checks, left) = check_small holds check session _ _ status checks
 
-pub stopped_small : (job : Job) → stopped_status job ≤ unchecked
-stopped_small (Tool task) = omega arith
-stopped_small (Tries run) = omega arith
-stopped_small (Runs run) = omega arith
-stopped_small (Boots power_ons) = omega arith
-stopped_small (Checks check) = omega arith
+job_stopped : (job : Job) → stopped_job job ≤ unchecked
+job_stopped (Tool task) = omega arith
+job_stopped (Tries run) = omega arith
+job_stopped (Runs run) = omega arith
+job_stopped (Boots power_ons) = omega arith
+job_stopped (Checks check) = omega arith
 
-pub uses_small : (holds : Holds) (call : Call) (devices : Devices) (old new : Streams) (status : ℕ) → Uses holds call devices old new status → status ≤ stopped_status call.job
-uses_small holds call devices old new status (inl (unread, said, is, left)) = omega (arith, is)
-uses_small holds call devices old new status (inr (waited, asked, source, session, warned, has, found, opening, accepted, does)) =
-    job_small holds call.only_changes call.job source session devices _ new status does
+stopped_small : (asked : Asked) → stopped_status asked ≤ unchecked
+stopped_small (Work call) = job_stopped call.job
+stopped_small (Look report) = omega arith
+stopped_small (Check check) = omega arith
+stopped_small (Make image) = omega arith
+stopped_small (Find path) = omega arith
+
+done_small : (holds wrote : Holds) (asked : Asked) (devices : Devices) (old new : Streams) (status : ℕ) → Done holds wrote asked devices old new status → status ≤ unchecked
+done_small holds wrote (Work call) devices old new status (asked, source, session, said, opens, does) =
+    omega (arith, job_small holds call.only_changes call.job source session devices _ new status does, job_stopped call.job)
+done_small holds wrote (Look report) devices old new status (unread, reports, left) = omega (arith, reports_small holds report _ _ status reports)
+done_small holds wrote (Check check) devices old new status (unread, checks, left) = file_check_small holds check _ _ status checks
+done_small holds wrote (Make image) devices old new status (unread, makes, left) = omega (arith, image_small holds wrote image _ _ status makes)
+done_small holds wrote (Find path) devices old new status (unread, finds, left) = omega (arith, finds_small holds path _ _ status finds)
+
+pub called_small : (holds wrote : Holds) (refused : ℕ) (asked : Asked) (devices : Devices) (old new : Streams) (status : ℕ) → Called holds wrote refused (Ok asked) devices old new status → status ≤ unchecked
+called_small holds wrote refused asked devices old new status (inl (halt, between, halts, unread, silent, said, is)) = omega (arith, is, stopped_small asked)
+called_small holds wrote refused asked devices old new status (inr done) = done_small holds wrote asked devices old new status done
 
 -- ---- texts that are made first and then written
 

@@ -4,15 +4,15 @@ use Rattle.std.specs.Prelude.{if◌then◌else◌}
 use Rattle.env_session.specs.declared.session.Stored.{Stored}
 use Rattle.envimg_core.specs.Geometry.{Shape}
 use Rattle.fw_engines.specs.Streams.{AppendsFront}
-use Rattle.fw_files.specs.Copies.{IsWarning, MayWarn, over_data, warned_of, warning_by}
+use Rattle.fw_files.specs.Copies.{over_data, warned_of, warning_by}
 use Rattle.fw_files.specs.declared.copies.ReadCopy.{ReadCopy}
 use Rattle.fw_files.specs.declared.source.Source.{Source}
-use Rattle.fw_files.specs.Said.{Says, SaysSome}
+use Rattle.fw_tools.specs.Said.{Says, SaysSome}
 use Rattle.fw_engines.specs.declared.tool_end.ToolEnd.{ToolEnd}
 use Rattle.env_session.specs.Session.{Held, bytes_of}
 use Rattle.envimg_core.specs.declared.choice.Choice.{Choice}
 use Rattle.fw_files.specs.WrittenBack.{AreKept, AreLeft, AreSafe, AreWritten, CallsOn, Devices, LeavesAtAnyMoment}
-use Rattle.fw_tools.specs.Closing.{Closes}
+use Rattle.fw_tools.specs.Closing.{Closes, IsWarning, MayWarn}
 
 by_choice : (p q : Bool) → IsWarning (if p then over_data (codes "first") else if q then over_data (codes "second") else [])
 by_choice true q = inr (inl refl)

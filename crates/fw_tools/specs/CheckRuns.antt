@@ -1,5 +1,5 @@
 -- What is done for a check (docs/check.md).
-use Rattle.std.specs.Prelude.{◌≡◌, ◌⊎◌, ℕ, true, List, [], ◌∷◌, ◌++◌, Option, Some, None, is_some, if◌then◌else◌, option_map}
+use Rattle.std.specs.Prelude.{◌≡◌, ℕ, true, List, [], ◌∷◌, ◌++◌, Option, Some, None, is_some, if◌then◌else◌, option_map}
 use Rattle.std.specs.Borrow.{Bor}
 use Rattle.std.specs.List.{AllByRecursion}
 use Rattle.clap.specs.Words.{Text}
@@ -10,7 +10,7 @@ use Rattle.fw_check.specs.Called.{given_with}
 use Rattle.fw_check.specs.FileChecks.{Checks, ChecksFiles, FileScript, paths_of}
 use Rattle.fw_engines.specs.Streams.{Writers}
 use Rattle.fw_engines.specs.declared.tool_end.ToolEnd.{ToolEnd}
-use Rattle.fw_files.specs.Said.{Says, SaysOnly}
+use Rattle.fw_tools.specs.Said.{Says}
 use Rattle.fw_files.specs.Files.{AreRulesOf, AreStubsOf}
 use Rattle.fw_files.specs.KnownNames.{AreKnownOf}
 use Rattle.fw_tools.specs.declared.hardware.GivenHardware.{GivenHardware}
@@ -43,10 +43,6 @@ unchecked = 2
 abbrev pub check_status : ToolEnd → ℕ
 check_status end = if is_some end.fault then unchecked else end.status
 
--- a file can't be used, or memory runs out: some text may report it
-abbrev pub IsUnchecked : Writers → Writers → ℕ → Type 0
-IsUnchecked old new status = SaysOnly old new × (status ≡ unchecked)
-
 -- what stopped a check is reported after what it printed, if anything did
 abbrev pub Ends : (Writers → ToolEnd → Type 0) → Writers → ℕ → Type 0
 Ends Printed new status =
@@ -65,17 +61,15 @@ abbrev pub AddsScriptAt : Holds → (path : Text) → (old new : List FileScript
 AddsScriptAt holds path old new =
     (text : List ℕ) × IsTextAt holds path text × (new ≡ old ++ record { path = path; text = text } ∷ [])
 
--- the scripts of an environment are checked, and those in files over it; or before that a file can't be used, or memory runs out
+-- the scripts of an environment are checked, and those in files over it
 abbrev pub ChecksOver : Holds → EnvironmentCheck → Held → Writers → Writers → ℕ → Type 0
 ChecksOver holds check session old new status =
-    IsUnchecked old new status
-    ⊎ ((h : Option Hardware) × (known : List Text) × (scripts : List FileScript) × IsHardwareGiven holds check.stand_ins check.board h
+    (h : Option Hardware) × (known : List Text) × (scripts : List FileScript) × IsHardwareGiven holds check.stand_ins check.board h
     × AreKnownOf holds check.known known × AreScriptsAt holds check.scripts scripts
-    × Ends (Checks (given_with check.shell h known) session.now.env check.choice check.names scripts old) new status)
+    × Ends (Checks (given_with check.shell h known) session.now.env check.choice check.names scripts old) new status
 
 -- the same for scripts in files alone
 abbrev pub ChecksFile : Holds → FileCheck → Writers → Writers → ℕ → Type 0
 ChecksFile holds check old new status =
-    IsUnchecked old new status
-    ⊎ ((h : Option Hardware) × (scripts : List FileScript) × IsHardwareGiven holds check.stand_ins check.board h × AreScriptsAt holds check.paths scripts
-    × Ends (ChecksFiles (given_with check.shell h []) check.choice scripts old) new status)
+    (h : Option Hardware) × (scripts : List FileScript) × IsHardwareGiven holds check.stand_ins check.board h × AreScriptsAt holds check.paths scripts
+    × Ends (ChecksFiles (given_with check.shell h []) check.choice scripts old) new status

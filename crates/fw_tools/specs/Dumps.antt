@@ -6,7 +6,7 @@ use Rattle.fw_engines.specs.Streams.{Writers}
 use Rattle.fw_engines.specs.Tool.{PrintsText}
 use Rattle.fw_engines.specs.declared.tool_end.ToolEnd.{ToolEnd}
 use Rattle.fw_engines.specs.declared.tool_end.StreamFault.TheVariants.{Memory}
-use Rattle.fw_files.specs.Said.{Says, Stops}
+use Rattle.fw_tools.specs.Said.{Says}
 use Rattle.fw_files.specs.FileTexts.{Holds}
 use Rattle.fw_files.specs.Files.{IsTextAt}
 
@@ -20,8 +20,6 @@ abbrev pub ReportsDump : (path dump : List ℕ) → Writers → Writers → ℕ 
 ReportsDump path dump old new status =
     (end : ToolEnd) × PrintsDump path dump old.output new.output end × Says end.fault old.errors new.errors × (status ≡ end.status)
 
--- for the bytes of the file at that path; or before that it can't be read, or memory runs out
+-- for the bytes of the file at that path
 abbrev pub Finds : Holds → (path : List ℕ) → Writers → Writers → ℕ → Type 0
-Finds holds path old new status =
-    Stops old new status
-    ⊎ ((dump : List ℕ) × IsTextAt holds path dump × ReportsDump path dump old new status)
+Finds holds path old new status = (dump : List ℕ) × IsTextAt holds path dump × ReportsDump path dump old new status

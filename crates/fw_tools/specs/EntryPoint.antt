@@ -14,7 +14,7 @@ use Rattle.fw_engines.specs.Streams.{AppendsFront, AppendsPart, Streams, Writers
 use Rattle.fw_tools.specs.CheckRuns.{unchecked}
 use Rattle.fw_tools.specs.Subcommands.{Called}
 use Rattle.fw_arguments.specs.Report.{asked_of}
-use Rattle.fw_files.specs.Said.{Says, message_of}
+use Rattle.fw_tools.specs.Said.{Says, message_of}
 use Rattle.fw_files.specs.WrittenBack.{AreLeft, Devices}
 use Rattle.fw_arguments.specs.ProgramNames.{called_by, faults, name_in, order_of}
 use Rattle.fw_arguments.specs.declared.program_name.ProgramName.{ProgramName}

@@ -1,5 +1,5 @@
 -- New images (docs/tools.md, "New images").
-use Rattle.std.specs.Prelude.{◌≡◌, ◌⊎◌, ℕ, Bool, true, false, List, ◌++◌, Option, Some, None, replicate}
+use Rattle.std.specs.Prelude.{◌≡◌, ℕ, Bool, true, false, List, ◌++◌, Option, Some, None, replicate}
 use Rattle.envimg_core.specs.Environment.{Environment}
 use Rattle.envimg_core.specs.Geometry.{Shape, room_of}
 use Rattle.envimg_core.specs.Image.{image_of}
@@ -10,7 +10,7 @@ use Rattle.fw_arguments.specs.ImageRequests.{ImageRequest}
 use Rattle.fw_engines.specs.Streams.{Writers}
 use Rattle.fw_engines.specs.Tool.{PrintsText}
 use Rattle.fw_engines.specs.declared.tool_end.ToolEnd.{ToolEnd}
-use Rattle.fw_files.specs.Said.{Says, Stops}
+use Rattle.fw_tools.specs.Said.{Says}
 use Rattle.fw_files.specs.Source.{AreDefaultsAt}
 use Rattle.fw_files.specs.FileTexts.{Holds}
 
@@ -44,12 +44,8 @@ PutsOut wrote None image old new status =
     (end : ToolEnd) × PrintsText old.output new.output image 0 end × Says end.fault old.errors new.errors × (status ≡ end.status)
 PutsOut wrote (Some path) image old new status = wrote path image × (new ≡ old) × (status ≡ 0)
 
-abbrev pub PutsOutOrStops : (wrote : Holds) → Option (List ℕ) → (image : List ℕ) → Writers → Writers → ℕ → Type 0
-PutsOutOrStops wrote output image old new status = Stops old new status ⊎ PutsOut wrote output image old new status
-
--- the image of the variables of the text at a path; or before that a file can't be used, or memory runs out
+-- the image of the variables of the text at a path
 abbrev pub MakesImage : (holds wrote : Holds) → ImageRequest → Writers → Writers → ℕ → Type 0
 MakesImage holds wrote asked old new status =
-    Stops old new status
-    ⊎ ((vars : Contents) × AreDefaultsAt holds asked.text.path asked.text.form (room_of (shape_for asked)) vars
-    × PutsOut wrote asked.output (image_bytes (shape_for asked) asked.both vars.env) old new status)
+    (vars : Contents) × AreDefaultsAt holds asked.text.path asked.text.form (room_of (shape_for asked)) vars
+    × PutsOut wrote asked.output (image_bytes (shape_for asked) asked.both vars.env) old new status

@@ -21,7 +21,7 @@ use Rattle.fw_engines.specs.Streams.{Writers}
 use Rattle.fw_engines.specs.Tool.{PrintsText}
 use Rattle.fw_engines.specs.declared.tool_end.ToolEnd.{ToolEnd}
 use Rattle.fw_engines.specs.declared.tool_end.StreamFault.TheVariants.{Memory}
-use Rattle.fw_files.specs.Said.{Says, Stops}
+use Rattle.fw_tools.specs.Said.{Says}
 use Rattle.fw_tools.specs.NewImages.{image_bytes}
 use Rattle.fw_tools.specs.WantedHardware.{IsHardwareOf}
 use Rattle.fw_files.specs.FileTexts.{Holds}
@@ -80,9 +80,8 @@ abbrev pub ReportsBoots : PowerOns → Hardware → (after : List (Option Chains
 ReportsBoots asked given after session old new status =
     (end : ToolEnd) × PrintsBoots asked given after session old.output new.output end × Says end.fault old.errors new.errors × (status ≡ end.status)
 
--- answers may be open; or before that a file can't be used or is no script, or memory runs out
+-- answers may be open
 abbrev pub BootsOver : Holds → PowerOns → Held → Writers → Writers → ℕ → Type 0
 BootsOver holds asked session old new status =
-    Stops old new status
-    ⊎ ((given : Hardware) × (after : List (Option Chains)) × IsHardwareOf holds true asked.dry given
-    × AreScriptsOf holds (bodies_of asked.dry.shell) asked.after after × ReportsBoots asked given after session old new status)
+    (given : Hardware) × (after : List (Option Chains)) × IsHardwareOf holds true asked.dry given
+    × AreScriptsOf holds (bodies_of asked.dry.shell) asked.after after × ReportsBoots asked given after session old new status

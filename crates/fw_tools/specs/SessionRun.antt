@@ -11,13 +11,13 @@ use Rattle.fw_session.specs.NamedSessions.{unnamed}
 use Rattle.fw_session.specs.declared.session_end.SessionEnding.{SessionEnding}
 use Rattle.fw_session.specs.declared.session_end.SessionEnding.TheVariants as ending
 use Rattle.fw_arguments.specs.DryRuns.{DryRun}
-use Rattle.fw_files.specs.Copies.{MayWarn}
 use Rattle.fw_files.specs.Locks.{HasWaited}
-use Rattle.fw_files.specs.Said.{SaysSome, Stops, message_of}
+use Rattle.fw_tools.specs.Closing.{MayWarn}
+use Rattle.fw_tools.specs.Said.{SaysSome, message_of}
 use Rattle.fw_files.specs.WrittenBack.{AreKept, AreLeft, AreSafe, Devices}
 use Rattle.fw_files.specs.declared.source.Source.{Source}
 use Rattle.fw_tools.specs.WantedHardware.{IsHardwareOf}
-use Rattle.fw_engines.specs.Streams.{AppendsFront, Streams, writers_of}
+use Rattle.fw_engines.specs.Streams.{AppendsFront, Streams}
 use Rattle.fw_engines.specs.declared.tool_end.StreamFault.TheVariants.{Read, Write, Memory}
 use Rattle.fw_files.specs.FileTexts.{Holds}
 
@@ -59,8 +59,7 @@ TriesWith run given source session devices old new status =
     × Ends end (rules_in run.shell given run.limits) (unnamed session) old.input new.input old.output new.output read written after
     × ClosesDryRun (is_kept run.write end) end source after.held devices old.errors new.errors status
 
--- no board is asked; or before that a file of these can't be used, or memory runs out
+-- no board is asked
 abbrev pub TriesOver : Holds → DryRun → Source → Held → Devices → Streams → Streams → ℕ → Type 0
 TriesOver holds run source session devices old new status =
-    ((new.input ≡ old.input) × Stops (writers_of old) (writers_of new) status × AreLeft devices)
-    ⊎ ((given : Hardware) × IsHardwareOf holds false run given × TriesWith run given source session devices old new status)
+    (given : Hardware) × IsHardwareOf holds false run given × TriesWith run given source session devices old new status

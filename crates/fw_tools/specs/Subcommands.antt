@@ -1,5 +1,5 @@
 -- What a subcommand does over a session, and what it prints (docs/tools.md, "Subcommands over files").
-use Rattle.std.specs.Prelude.{◌≡◌, ◌⊎◌, ℕ, ◌==◌, ◌&&◌, not, Bool, true, false, if◌then◌else◌, List, map, Option, Some, None, Result, Ok, Err}
+use Rattle.std.specs.Prelude.{◌≡◌, ◌⊎◌, ℕ, ◌==◌, ◌&&◌, not, Bool, true, false, if◌then◌else◌, List, [], map, Option, Some, None, Result, Ok, Err, ⊤}
 use Rattle.std.specs.FinMap as env
 use Rattle.env_session.specs.Session.{Held, last_changed_names}
 use Rattle.envimg_core.specs.declared.choice.Choice.{Choice}
@@ -11,12 +11,15 @@ use Rattle.clap.specs.Words.{Text}
 use Rattle.fw_arguments.specs.Calls.{Boots, Call, Checks, Defaults, Job, Tool, Tries, Runs, Task, changes, keeps_lock, spares, writes}
 use Rattle.fw_tools.specs.CheckRuns.{ChecksFile, ChecksOver, unchecked}
 use Rattle.fw_tools.specs.Closing.{Closes}
-use Rattle.fw_files.specs.CopyReport.{ReportsOn}
+use Rattle.fw_tools.specs.CopyReport.{HaltsAfterLocks, ReportsOn}
 use Rattle.fw_arguments.specs.Report.{Asked, Check, Find, Look, Make, Work}
-use Rattle.fw_files.specs.Opening.{IsAccepted, IsOpening}
-use Rattle.fw_files.specs.Source.{IsTaken}
+use Rattle.fw_files.specs.Opening.{IsOpening}
+use Rattle.fw_files.specs.Source.{IsTaken, lacks_copy, warned, warning}
 use Rattle.fw_files.specs.Locks.{HasWaited}
-use Rattle.fw_files.specs.Said.{SaysOnly, Stops}
+use Rattle.fw_tools.specs.HaltLines.{SaysHalt}
+use Rattle.fw_tools.specs.Reasons.{explains_asked}
+use Rattle.fw_tools.specs.Said.{AreSame}
+use Rattle.fw_tools.specs.declared.halt.Halt.{Halt}
 use Rattle.fw_files.specs.WrittenBack.{AreLeft, Devices}
 use Rattle.fw_files.specs.declared.source.Source.{Source}
 use Rattle.fw_engines.specs.TextForm.{export_texts}
@@ -33,7 +36,7 @@ use Rattle.fw_tools.specs.Dumps.{Finds}
 use Rattle.fw_tools.specs.NewImages.{MakesImage}
 use Rattle.fw_tools.specs.SessionRun.{TriesOver}
 use Rattle.fw_tools.specs.PowerOns.{BootsOver}
-use Rattle.fw_tools.specs.ScriptRuns.{RunsOver}
+use Rattle.fw_tools.specs.ScriptRuns.{HaltsRun, RunsOver}
 use Rattle.fw_engines.specs.Streams.{AppendsFront, Streams, Writers, writers_of}
 use Rattle.fw_engines.specs.Tool.{Printed, Texts}
 use Rattle.fw_engines.specs.declared.tool_end.ToolEnd.{ToolEnd}
@@ -91,11 +94,6 @@ Acts holds (Task.Restore path) old new end = (entries : List text_entries.Entry)
 abbrev pub hold_for : Job → Hold
 hold_for job = if writes job then Alone else Shared
 
--- the status of a job whose files can't be used
-abbrev pub stopped_status : Job → ℕ
-stopped_status (Checks check) = unchecked
-stopped_status job = 1
-
 -- a job keeps the locks on its copies, if they are in devices, until it has written them
 abbrev pub keeps_locks : (image : Option ℕ) → Job → Bool
 keeps_locks None job = keeps_lock job
@@ -108,17 +106,16 @@ is_left false only_changes choice touched = true
 is_left true only_changes Neither touched = false
 is_left true only_changes choice touched = only_changes && touched == 0
 
--- a task is done over a session, and the copies are written back if it may have changed them; or its file can't be used
+-- a task is done over a session, and the copies are written back if it may have changed them
 abbrev pub is_kept : (only_changes : Bool) → Task → (opened after : Held) → Bool
 is_kept only_changes task opened after =
     not (is_left (changes task) only_changes opened.now.current (env.len (last_changed_names after.marks)))
 
 abbrev pub UsesTool : Holds → (only_changes : Bool) → Task → Source → Held → Devices → Writers → Writers → ℕ → Type 0
 UsesTool holds only_changes task source session devices old new status =
-    (Stops old new status × AreLeft devices)
-    ⊎ ((after : Scene) × (end : ToolEnd) × Acts holds task (record { session = session; writers = old }) after end
+    (after : Scene) × (end : ToolEnd) × Acts holds task (record { session = session; writers = old }) after end
     × (new.output ≡ after.writers.output)
-    × Closes (is_kept only_changes task session after.session) Second source after.session end devices after.writers.errors new.errors status)
+    × Closes (is_kept only_changes task session after.session) Second source after.session end devices after.writers.errors new.errors status
 
 -- what is done over a session; a tool doesn't read standard input, nor does a check, nor a script's run
 -- except for its file
@@ -133,27 +130,71 @@ DoesJob holds only_changes (Boots power_ons) source session devices old new stat
 DoesJob holds only_changes (Checks check) source session devices old new status =
     (new.input ≡ old.input) × ChecksOver holds check session (writers_of old) (writers_of new) status × AreLeft devices
 
+-- nothing is done over a session: if that is for a text which isn't a script, `run` was given that text
+abbrev pub HaltsAt : Holds → Job → Halt → Type 0
+HaltsAt holds (Runs run) halt = HaltsRun holds run halt
+HaltsAt holds job halt = ⊤
+
+abbrev pub HaltsJob : Holds → Job → Halt → Devices → Streams → Streams → Type 0
+HaltsJob holds job halt devices old new =
+    HaltsAt holds job halt × (new.input ≡ old.input) × AreSame (writers_of old) (writers_of new) × AreLeft devices
+
 -- locks may be waited for, then a session is opened, with a warning if no copy is good, and worked on; what writes
 -- copies, and isn't told to write over those that are good in another way, works over none of these
+pub record OpensSession (holds : Holds) (call : Call) (old : Option (List ℕ)) (asked : Defaults) (source : Source) (session : Held) (warned_by : Option (List ℕ)) : Type 0 where
+  pub waited : Option (List ℕ)
+  pub waits : HasWaited old waited
+  pub taken : IsTaken session.now.current call.defaults asked
+  pub opening : IsOpening holds call.config call.image call.order call.copy (spares call) asked source session
+  pub accepted : lacks_copy asked session.now.current ≡ false
+  pub warns : AppendsFront waited warned_by (warned call.defaults.whole session.now.current)
+
 abbrev pub UsesSession : Holds → Call → Devices → Streams → Streams → ℕ → Type 0
 UsesSession holds call devices old new status =
-    (waited : Option (List ℕ)) × (asked : Defaults) × (source : Source) × (session : Held) × (warned : Option (List ℕ)) × HasWaited old.errors waited
-    × IsTaken session.now.current call.defaults asked × IsOpening holds call.config call.image call.order call.copy (spares call) asked source session
-    × IsAccepted asked session waited warned
-    × DoesJob holds call.only_changes call.job source session devices (record { input = old.input; output = old.output; errors = warned }) new status
+    (asked : Defaults) × (source : Source) × (session : Held) × (said : Option (List ℕ)) × OpensSession holds call old.errors asked source session said
+    × DoesJob holds call.only_changes call.job source session devices (record { input = old.input; output = old.output; errors = said }) new status
 
--- or before that a file can't be used, or memory runs out: some text may report it
-abbrev pub Uses : Holds → Call → Devices → Streams → Streams → ℕ → Type 0
-Uses holds call devices old new status =
-    ((new.input ≡ old.input) × SaysOnly (writers_of old) (writers_of new) × (status ≡ stopped_status call.job) × AreLeft devices)
-    ⊎ UsesSession holds call devices old new status
+-- or before that it comes to an end, and nothing is done: locks may be waited for, and a warning that no copy is good precedes a
+-- fault of what is read after it
+abbrev pub MayWarnOpening : Option (List ℕ) → Option (List ℕ) → Type 0
+MayWarnOpening old new = (text : List ℕ) × ((text ≡ []) ⊎ (text ≡ warning Neither)) × AppendsFront old new text
+
+abbrev pub HaltsCall : Holds → Call → Halt → Devices → Streams → Streams → Type 0
+HaltsCall holds call halt devices old new =
+    HaltsAt holds call.job halt × (new.input ≡ old.input) × (new.output ≡ old.output) × AreLeft devices
+    × ((waited : Option (List ℕ)) × HasWaited old.errors waited × MayWarnOpening waited new.errors)
+
+-- what a subcommand is asked for is done
+abbrev pub Done : (holds wrote : Holds) → Asked → Devices → Streams → Streams → ℕ → Type 0
+Done holds wrote (Work call) devices old new status = UsesSession holds call devices old new status
+Done holds wrote (Look report) devices old new status = (new.input ≡ old.input) × ReportsOn holds report (writers_of old) (writers_of new) status × AreLeft devices
+Done holds wrote (Check check) devices old new status = (new.input ≡ old.input) × ChecksFile holds check (writers_of old) (writers_of new) status × AreLeft devices
+Done holds wrote (Make image) devices old new status = (new.input ≡ old.input) × MakesImage holds wrote image (writers_of old) (writers_of new) status × AreLeft devices
+Done holds wrote (Find path) devices old new status = (new.input ≡ old.input) × Finds holds path (writers_of old) (writers_of new) status × AreLeft devices
+
+-- or nothing is, for this reason
+abbrev pub Halts : Holds → Asked → Halt → Devices → Streams → Streams → Type 0
+Halts holds (Work call) halt devices old new = HaltsCall holds call halt devices old new
+Halts holds asked halt devices old new = (new.input ≡ old.input) × HaltsAfterLocks (writers_of old) (writers_of new) × AreLeft devices
+
+abbrev pub stopped_job : Job → ℕ
+stopped_job (Checks check) = unchecked
+stopped_job job = 1
+
+abbrev pub stopped_status : Asked → ℕ
+stopped_status (Work call) = stopped_job call.job
+stopped_status (Check check) = unchecked
+stopped_status asked = 1
+
+-- that is reported, by the one line for it
+abbrev pub Stopped : Holds → Asked → Devices → Streams → Streams → ℕ → Type 0
+Stopped holds asked devices old new status =
+    (halt : Halt) × (between : Streams) × Halts holds asked halt devices old between
+    × (new.input ≡ between.input) × (new.output ≡ between.output) × SaysHalt (explains_asked asked) halt between.errors new.errors
+    × (status ≡ stopped_status asked)
 
 -- wrong arguments that clap's rules don't detect are answered with a text and this status, and nothing is read
 abbrev pub Called : (holds wrote : Holds) → (refused : ℕ) → Result Asked Text → Devices → Streams → Streams → ℕ → Type 0
-Called holds wrote refused (Ok (Work call)) devices old new status = Uses holds call devices old new status
-Called holds wrote refused (Ok (Look report)) devices old new status = (new.input ≡ old.input) × ReportsOn holds report (writers_of old) (writers_of new) status × AreLeft devices
-Called holds wrote refused (Ok (Check check)) devices old new status = (new.input ≡ old.input) × ChecksFile holds check (writers_of old) (writers_of new) status × AreLeft devices
-Called holds wrote refused (Ok (Make image)) devices old new status = (new.input ≡ old.input) × MakesImage holds wrote image (writers_of old) (writers_of new) status × AreLeft devices
-Called holds wrote refused (Ok (Find path)) devices old new status = (new.input ≡ old.input) × Finds holds path (writers_of old) (writers_of new) status × AreLeft devices
+Called holds wrote refused (Ok asked) devices old new status = Stopped holds asked devices old new status ⊎ Done holds wrote asked devices old new status
 Called holds wrote refused (Err text) devices old new status =
     (new.input ≡ old.input) × (new.output ≡ old.output) × AppendsFront old.errors new.errors text × (status ≡ refused) × AreLeft devices

@@ -1,72 +1,60 @@
 //! Scripts of files, which a system may run once it has booted.
-ghost use Rattle.std.specs.Prelude.{◌≡◌, ◌++◌, ◌∷◌, [], map, MatchOption, OnOk};
+ghost use Rattle.std.specs.Prelude.{◌≡◌, ◌++◌, ◌∷◌, [], IfOk, OnOk, map};
 ghost use Rattle.hush_syntax.specs.Scripts.{tree_of};
 ghost use Rattle.fw_arguments.specs.DryRuns.{texts};
-ghost use Rattle.fw_files.specs.Said.{SaysSome};
 ghost use Rattle.fw_tools.specs.PowerOns.{AddsScriptOf, AreScriptsOf, IsScriptOf};
 
-use crate::script_source::script_or_say;
-use fw_engines::OUT_OF_MEMORY;
-use fw_engines::streams::say;
-use fw_files::{Explains, System, read_text, value_or_say};
+use crate::halt::Halt;
+use crate::script_source::script_in;
+use fw_files::{System, read_text};
 use hush_syntax::{Bodies, Script};
 use std::alloc::AllocError;
-use std::io::Write;
 
-/// The scripts of these files; what is wrong with one is reported on `errors`.
-pub(crate) fn scripts_or_say<X: System + AllocGlobal, E: Write>(
+/// The scripts of these files.
+pub(crate) fn scripts_of<'w, X: System + AllocGlobal>(
     rt: &X,
     bodies: Bodies,
-    paths: Option<&[&str]>,
-    errors: &mut E,
-) -> Option<Vec<Script>>
-    ensures { MatchOption result (SaysSome (E.contents errors.old) (E.contents errors.new))
-        (λ scripts. AreScriptsOf (X.holds rt.now) bodies (texts paths.entry) (map tree_of scripts.items) × (E.contents errors.new ≡ E.contents errors.old)) }
+    paths: Option<&[&'w str]>,
+) -> Result<Vec<Script>, Halt<'w>>
+    ensures { IfOk result (λ scripts. AreScriptsOf (X.holds rt.now) bodies (texts paths.entry) (map tree_of scripts.items)) }
 {
     match paths {
-        None => Some(Vec::new(rt.alloc())),
-        Some(paths) => all_or_say(rt, bodies, paths, errors),
+        None => Ok(Vec::new(rt.alloc())),
+        Some(paths) => all_scripts(rt, bodies, paths),
     }
 }
 
 /// The same of paths that are there.
-fn all_or_say<X: System + AllocGlobal, E: Write>(
+fn all_scripts<'w, X: System + AllocGlobal>(
     rt: &X,
     bodies: Bodies,
-    paths: &[&str],
-    errors: &mut E,
-) -> Option<Vec<Script>>
-    ensures { MatchOption result (SaysSome (E.contents errors.old) (E.contents errors.new))
-        (λ scripts. AreScriptsOf (X.holds rt.now) bodies (map (λ p. p.now) paths.now) (map tree_of scripts.items) × (E.contents errors.new ≡ E.contents errors.old)) }
+    paths: &[&'w str],
+) -> Result<Vec<Script>, Halt<'w>>
+    ensures { IfOk result (λ scripts. AreScriptsOf (X.holds rt.now) bodies (map (λ p. p.now) paths.now) (map tree_of scripts.items)) }
 {
     let mut scripts = Vec::new(rt.alloc());
     for path in paths {
-        push_or_say(rt, bodies, path, &mut scripts, errors)?;
+        push_script(rt, bodies, path, &mut scripts)?;
     }
-    Some(scripts)
+    Ok(scripts)
 }
 
 /// Appends the script of a file.
-fn push_or_say<X: System + AllocGlobal, E: Write>(
+fn push_script<'w, X: System + AllocGlobal>(
     rt: &X,
     bodies: Bodies,
-    path: &str,
+    path: &'w str,
     scripts: &mut Vec<Script>,
-    errors: &mut E,
-) -> Option<()>
-    ensures { MatchOption result (SaysSome (E.contents errors.old) (E.contents errors.new))
-        (λ _. AddsScriptOf (X.holds rt.now) bodies path.now (map tree_of scripts.old.items) (map tree_of scripts.new.items) × (E.contents errors.new ≡ E.contents errors.old)) }
+) -> Result<(), Halt<'w>>
+    ensures { OnOk result (AddsScriptOf (X.holds rt.now) bodies path.now (map tree_of scripts.old.items) (map tree_of scripts.new.items)) }
 {
-    let script = script_of_file_or_say(rt, bodies, path, errors)?;
-    if push_script(script, scripts).is_err() {
-        say(errors, OUT_OF_MEMORY);
-        return None;
-    }
-    Some(())
+    let script = script_of_file(rt, bodies, path)?;
+    push_parsed(script, scripts)?;
+    Ok(())
 }
 
 /// Appends a script.
-fn push_script(script: Script, scripts: &mut Vec<Script>) -> Result<(), AllocError>
+fn push_parsed(script: Script, scripts: &mut Vec<Script>) -> Result<(), AllocError>
     ensures { OnOk result (map tree_of scripts.new.items ≡ map tree_of scripts.old.items ++ tree_of script ∷ []) }
 {
     scripts.push(script)?;
@@ -74,21 +62,15 @@ fn push_script(script: Script, scripts: &mut Vec<Script>) -> Result<(), AllocErr
 }
 
 /// The script of a file.
-fn script_of_file_or_say<X: System + AllocGlobal, E: Write>(
+fn script_of_file<'w, X: System + AllocGlobal>(
     rt: &X,
     bodies: Bodies,
-    path: &str,
-    errors: &mut E,
-) -> Option<Script>
-    ensures { MatchOption result (SaysSome (E.contents errors.old) (E.contents errors.new))
-        (λ script. IsScriptOf (X.holds rt.now) bodies path.now (tree_of script) × (E.contents errors.new ≡ E.contents errors.old)) }
+    path: &'w str,
+) -> Result<Script, Halt<'w>>
+    ensures { IfOk result (λ script. IsScriptOf (X.holds rt.now) bodies path.now (tree_of script)) }
 {
-    let text = value_or_say(
-        rt.alloc(),
-        errors,
-        Explains::Reason,
-        path,
-        read_text(rt, path),
-    )?;
-    script_or_say(rt.alloc(), bodies, path, &text, errors)
+    match read_text(rt, path) {
+        Ok(text) => script_in(rt.alloc(), bodies, path, text),
+        Err(fault) => Err(Halt::at(path, fault)),
+    }
 }

@@ -1,40 +1,43 @@
 //! `check`: the scripts of an environment, or those of files, are checked before anything runs.
-ghost use Rattle.std.specs.Prelude.{◌≤◌, MatchOption, ◌≡◌, OnOk, map, unwrap_or};
+ghost use Rattle.std.specs.Prelude.{◌≡◌, IfOk, MatchResult, OnOk, map};
 ghost use Rattle.fw_arguments.specs.DryRuns.{texts};
 ghost use Rattle.fw_check.specs.FileChecks.{scripts_view};
 ghost use Rattle.fw_arguments.specs.Checks.{environment_check_view, file_check_view};
-ghost use Rattle.fw_tools.specs.CheckRuns.{AddsScriptAt, AreScriptsAt, ChecksFile, ChecksOver, check_status, unchecked};
-ghost use Rattle.fw_files.specs.Said.{Says, SaysSome};
+ghost use Rattle.fw_tools.specs.CheckRuns.{AddsScriptAt, AreScriptsAt, ChecksFile, ChecksOver, check_status};
+ghost use Rattle.fw_tools.specs.Said.{AreSame, Says};
 
-use crate::check_rules::{hardware_given_or_say, known_or_say, rules_with};
-use crate::task_work::bytes_or_say;
+use crate::check_rules::{hardware_if_given, known_names, rules_with};
+use crate::halt::Halt;
+use crate::task_work::bytes_of;
+use crate::tool_messages::report;
 use env_session::Session;
 use fw_arguments::{EnvironmentCheck, FileCheck};
 use fw_check::{FileScript, check, check_files};
 use fw_engines::ToolEnd;
-use fw_files::{Explains, FileFault, System, read_text, report, value_or_say};
+use fw_files::{Stop, System, read_text};
 use std::io::Write;
 
 /// The exit status of a check that can't be made, or whose findings can't be printed.
 pub(crate) const UNCHECKED: u8 = 2;
 
-/// Checks the scripts of a session's environment, and those in files over it, and answers the exit status; `None` if a file
-/// can't be used before.
-pub(crate) fn check_session<X: System + AllocGlobal, W: Write, E: Write>(
+/// Checks the scripts of a session's environment, and those in files over it, and answers the exit status.
+pub(crate) fn check_session<'w, X: System + AllocGlobal, W: Write, E: Write>(
     rt: &X,
     session: &Session,
-    asked: &EnvironmentCheck<'_, '_>,
+    asked: &EnvironmentCheck<'_, 'w>,
     output: &mut W,
     errors: &mut E,
-) -> Option<u8>
-    ensures { ChecksOver (X.holds rt.now) (environment_check_view asked.now) session.now
+) -> Result<u8, Halt<'w>>
+    ensures { MatchResult result (ChecksOver (X.holds rt.now) (environment_check_view asked.now) session.now
         (record { output = W.contents output.old; errors = E.contents errors.old })
-        (record { output = W.contents output.new; errors = E.contents errors.new }) (unwrap_or result unchecked) }
+        (record { output = W.contents output.new; errors = E.contents errors.new }))
+        (λ _. AreSame (record { output = W.contents output.old; errors = E.contents errors.old })
+        (record { output = W.contents output.new; errors = E.contents errors.new })) }
 {
-    let given = hardware_given_or_say(rt, asked.stand_ins, asked.board, errors)?;
-    let known = known_or_say(rt, asked.known, errors)?;
-    let names = bytes_or_say(rt.alloc(), asked.names, errors)?;
-    let scripts = given_scripts_or_say(rt, asked.scripts, errors)?;
+    let given = hardware_if_given(rt, asked.stand_ins, asked.board)?;
+    let known = known_names(rt, asked.known)?;
+    let names = bytes_of(rt.alloc(), asked.names)?;
+    let scripts = given_scripts(rt, asked.scripts)?;
     let end = check(
         rt.alloc(),
         rules_with(asked.shell, &given, &known),
@@ -45,37 +48,24 @@ pub(crate) fn check_session<X: System + AllocGlobal, W: Write, E: Write>(
         output,
         errors,
     );
-    Some(leave(end, errors))
+    Ok(leave(end, errors))
 }
 
 /// Checks the scripts in files alone, and answers the exit status.
-pub(crate) fn run_file_check<X: System + AllocGlobal, W: Write, E: Write>(
+pub(crate) fn check_scripts<'w, X: System + AllocGlobal, W: Write, E: Write>(
     rt: &X,
-    asked: &FileCheck<'_, '_>,
+    asked: &FileCheck<'_, 'w>,
     output: &mut W,
     errors: &mut E,
-) -> u8
-    ensures status { result ≤ unchecked }
-    ensures checks { ChecksFile (X.holds rt.now) (file_check_view asked.now)
+) -> Result<u8, Halt<'w>>
+    ensures { MatchResult result (ChecksFile (X.holds rt.now) (file_check_view asked.now)
         (record { output = W.contents output.old; errors = E.contents errors.old })
-        (record { output = W.contents output.new; errors = E.contents errors.new }) result }
+        (record { output = W.contents output.new; errors = E.contents errors.new }))
+        (λ _. AreSame (record { output = W.contents output.old; errors = E.contents errors.old })
+        (record { output = W.contents output.new; errors = E.contents errors.new })) }
 {
-    check_scripts(rt, asked, output, errors).unwrap_or(UNCHECKED)
-}
-
-/// The same; `None` if a file can't be used before.
-fn check_scripts<X: System + AllocGlobal, W: Write, E: Write>(
-    rt: &X,
-    asked: &FileCheck<'_, '_>,
-    output: &mut W,
-    errors: &mut E,
-) -> Option<u8>
-    ensures { ChecksFile (X.holds rt.now) (file_check_view asked.now)
-        (record { output = W.contents output.old; errors = E.contents errors.old })
-        (record { output = W.contents output.new; errors = E.contents errors.new }) (unwrap_or result unchecked) }
-{
-    let given = hardware_given_or_say(rt, asked.stand_ins, asked.board, errors)?;
-    let scripts = scripts_or_say(rt, asked.paths, errors)?;
+    let given = hardware_if_given(rt, asked.stand_ins, asked.board)?;
+    let scripts = scripts_at(rt, asked.paths)?;
     let end = check_files(
         rt.alloc(),
         rules_with(asked.shell, &given, &[]),
@@ -84,55 +74,34 @@ fn check_scripts<X: System + AllocGlobal, W: Write, E: Write>(
         output,
         errors,
     );
-    Some(leave(end, errors))
+    Ok(leave(end, errors))
 }
 
-/// The scripts in the files of these paths, if some are given; a fault of one is reported on `errors`.
-fn given_scripts_or_say<'w, X: System + AllocGlobal, E: Write>(
+/// The scripts in the files of these paths, if some are given.
+fn given_scripts<'w, X: System + AllocGlobal>(
     rt: &X,
     paths: Option<&[&'w str]>,
-    errors: &mut E,
-) -> Option<Vec<FileScript<'w>>>
-    ensures { MatchOption result (SaysSome (E.contents errors.old) (E.contents errors.new))
-        (λ scripts. AreScriptsAt (X.holds rt.now) (texts paths.entry) (scripts_view scripts.items)
-        × (E.contents errors.new ≡ E.contents errors.old)) }
+) -> Result<Vec<FileScript<'w>>, Halt<'w>>
+    ensures { IfOk result (λ scripts. AreScriptsAt (X.holds rt.now) (texts paths.entry) (scripts_view scripts.items)) }
 {
     match paths {
-        Some(paths) => scripts_or_say(rt, paths, errors),
-        None => Some(Vec::new(rt.alloc())),
+        Some(paths) => scripts_at(rt, paths),
+        None => Ok(Vec::new(rt.alloc())),
     }
 }
 
-/// The scripts in the files of these paths; a fault of one is reported on `errors`.
-fn scripts_or_say<'w, X: System + AllocGlobal, E: Write>(
+/// The scripts in the files of these paths.
+fn scripts_at<'w, X: System + AllocGlobal>(
     rt: &X,
     paths: &[&'w str],
-    errors: &mut E,
-) -> Option<Vec<FileScript<'w>>>
-    ensures { MatchOption result (SaysSome (E.contents errors.old) (E.contents errors.new))
-        (λ scripts. AreScriptsAt (X.holds rt.now) (map (λ p. p.now) paths.now) (scripts_view scripts.items)
-        × (E.contents errors.new ≡ E.contents errors.old)) }
+) -> Result<Vec<FileScript<'w>>, Halt<'w>>
+    ensures { IfOk result (λ scripts. AreScriptsAt (X.holds rt.now) (map (λ p. p.now) paths.now) (scripts_view scripts.items)) }
 {
     let mut scripts = Vec::new(rt.alloc());
     for path in paths {
-        add_or_say(rt, path, &mut scripts, errors)?;
+        add_script(rt, path, &mut scripts)?;
     }
-    Some(scripts)
-}
-
-/// Appends the script in the file of this path; a fault of it is reported on `errors`.
-fn add_or_say<'w, X: System + AllocGlobal, E: Write>(
-    rt: &X,
-    path: &'w str,
-    scripts: &mut Vec<FileScript<'w>>,
-    errors: &mut E,
-) -> Option<()>
-    ensures { MatchOption result (SaysSome (E.contents errors.old) (E.contents errors.new))
-        (λ _. AddsScriptAt (X.holds rt.now) path.now (scripts_view scripts.old.items) (scripts_view scripts.new.items)
-        × (E.contents errors.new ≡ E.contents errors.old)) }
-{
-    let added = add_script(rt, path, scripts);
-    value_or_say(rt.alloc(), errors, Explains::Reason, path, added)
+    Ok(scripts)
 }
 
 /// Appends the script in the file of this path.
@@ -140,18 +109,18 @@ fn add_script<'w, X: System + AllocGlobal>(
     rt: &X,
     path: &'w str,
     scripts: &mut Vec<FileScript<'w>>,
-) -> Result<(), FileFault>
+) -> Result<(), Halt<'w>>
     ensures { OnOk result
         (AddsScriptAt (X.holds rt.now) path.now (scripts_view scripts.old.items) (scripts_view scripts.new.items)) }
 {
-    let text = read_text(rt, path)?;
-    let script = FileScript {
-        path: path.as_bytes(),
-        text,
+    let text = match read_text(rt, path) {
+        Ok(text) => text,
+        Err(fault) => return Err(Halt::at(path, fault)),
     };
-    match scripts.push(script) {
+    let path = path.as_bytes();
+    match scripts.push(FileScript { path, text }) {
         Ok(()) => Ok(()),
-        Err(_) => Err(FileFault::Memory),
+        Err(_) => Err(Halt::Files(Stop::Memory)),
     }
 }
 

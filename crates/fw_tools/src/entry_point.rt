@@ -1,29 +1,35 @@
 //! The program over its arguments and streams.
-ghost use Rattle.std.specs.Prelude.{◌≡◌, ◌⊎◌, ◌≤◌, ℕ, Ok, map, option_map};
+ghost use Rattle.std.specs.Prelude.{◌≡◌, ◌⊎◌, ◌≤◌, ℕ, MatchResult, Ok, map, option_map};
 ghost use Rattle.clap.specs.Words.{found_of, kind_of, rows_of};
 ghost use Rattle.device_files.specs.Record.{calls_in};
 ghost use Rattle.fw_tools.specs.CheckRuns.{unchecked};
 ghost use Rattle.fw_tools.specs.EntryPoint.{RepliesTo, Does, asks_check, begins_check, is_flag, is_shown, LacksMemory, Runs, ShowsAndSays, message_without_words, refused_status};
 ghost use Rattle.fw_arguments.specs.Report.{asked_view};
-ghost use Rattle.fw_tools.specs.Subcommands.{Called};
+ghost use Rattle.fw_tools.specs.Subcommands.{Called, Done, Halts, stopped_status};
 ghost use Rattle.fw_engines.specs.Streams.{AppendsFront};
 ghost use Rattle.fw_arguments.specs.ProgramNames.{called_in};
 ghost use Rattle.fw_arguments.specs.WordFaults.{fault_text};
 ghost use Rattle.fw_arguments.specs.Words.{order_in};
 ghost use Rattle.std.specs.IoError.{error_kind};
 
-use crate::check_work::{UNCHECKED, run_file_check};
-use crate::find_work::run_find;
-use crate::image_work::run_image;
-use crate::subcommands::run_call;
+use crate::check_work::{UNCHECKED, check_scripts};
+use crate::explains::Explains;
+use crate::find_work::find;
+use crate::halt::Halt;
+use crate::image_work::make_image;
+use crate::status_work::report_state;
+use crate::subcommands::use_files;
+use crate::tool_messages::{message_of, report, status_or_say};
 use clap::error::ErrorKind;
 use clap::{ArgMatches, Error};
 use device_files::{OpenDevice, Start};
 use envimg_core::Order;
-use fw_arguments::{Asked, ProgramName, WordFault, called, chosen_order, read_asked, read_words};
+use fw_arguments::{
+    Asked, Job, ProgramName, WordFault, called, chosen_order, read_asked, read_words,
+};
 use fw_engines::streams::{say, write_text, write_three};
 use fw_engines::{OUT_OF_MEMORY, StreamFault, show};
-use fw_files::{System, message_of, report, run_report};
+use fw_files::System;
 use std::alloc::Global;
 use std::convert::AsStr;
 use std::io::{self, Read, Write};
@@ -42,7 +48,8 @@ const NO_WORDS: &[u8] = b"fwenv: cannot read the command line\n";
 /// [`setenv`], [`set_script`], [`import`], [`export`], [`restore`], [`session`]), and writes back those that it
 /// changed, or reports their state ([`status`], or [`file_status`] of a whole file). Help goes to `output`, status 0; a
 /// fault of the command line to `errors`, status 1, of a check 2. docs/tools.md has each text. A session also says on the screen of `rt`,
-/// if it has one, where and why a block isn't a script.
+/// if it has one, where and why a block isn't a script, and to somebody who watches `rt` every power-on of a board says how far
+/// it has come, and wipes that before it prints anything.
 ///
 /// [`printenv`]: fw_engines::printenv
 /// [`setenv`]: fw_engines::setenv
@@ -178,7 +185,7 @@ fn say_word_fault<E: Write>(fault: &WordFault<'_>, errors: &mut E)
     let _ = write_three(errors, fault.front, fault.word.as_bytes(), fault.back);
 }
 
-/// Does what a subcommand asks for.
+/// Does what a subcommand asks for, or reports why it ended before its work.
 fn run_asked<X: System + AllocGlobal, D: Start, R: Read, W: Write, E: Write>(
     rt: &X,
     asked: &Asked<'_, '_>,
@@ -194,12 +201,54 @@ fn run_asked<X: System + AllocGlobal, D: Start, R: Read, W: Write, E: Write>(
         (record { input = R.remaining input.new; output = W.contents output.new; errors = E.contents errors.new })
         result }
 {
+    let ended = do_asked(rt, asked, devices, input, output, errors);
+    status_or_say(
+        rt.alloc(),
+        errors,
+        Explains::of(asked),
+        ended,
+        stopped_status(asked),
+    )
+}
+
+/// The status of what ends before its work.
+fn stopped_status(asked: &Asked<'_, '_>) -> u8
+    ensures { result ≡ stopped_status (asked_view asked.now) }
+{
     match asked {
-        Asked::Work(call) => run_call(rt, call, devices, input, output, errors),
-        Asked::Look(report) => run_report(rt, report, output, errors),
-        Asked::Check(check) => run_file_check(rt, check, output, errors),
-        Asked::Make(image) => run_image(rt, image, output, errors),
-        Asked::Find(path) => run_find(rt, path, output, errors),
+        Asked::Check(_) => UNCHECKED,
+        Asked::Work(call) => match call.job {
+            Job::Check(_) => UNCHECKED,
+            _ => 1,
+        },
+        _ => 1,
+    }
+}
+
+/// Does what a subcommand asks for.
+fn do_asked<'w, X: System + AllocGlobal, D: Start, R: Read, W: Write, E: Write>(
+    rt: &X,
+    asked: &Asked<'_, 'w>,
+    devices: &mut Option<OpenDevice<X::File, D>>,
+    input: &mut R,
+    output: &mut W,
+    errors: &mut E,
+) -> Result<u8, Halt<'w>>
+    ensures { MatchResult result (Done (X.holds rt.now) (X.wrote rt.now) (asked_view asked.now)
+        (record { start = D.contents; before = option_map (λ d. calls_in d.calls) devices.old; after = option_map (λ d. calls_in d.calls) devices.new })
+        (record { input = R.remaining input.old; output = W.contents output.old; errors = E.contents errors.old })
+        (record { input = R.remaining input.new; output = W.contents output.new; errors = E.contents errors.new }))
+        (λ halt. Halts (X.holds rt.now) (asked_view asked.now) halt
+        (record { start = D.contents; before = option_map (λ d. calls_in d.calls) devices.old; after = option_map (λ d. calls_in d.calls) devices.new })
+        (record { input = R.remaining input.old; output = W.contents output.old; errors = E.contents errors.old })
+        (record { input = R.remaining input.new; output = W.contents output.new; errors = E.contents errors.new })) }
+{
+    match asked {
+        Asked::Work(call) => use_files(rt, call, devices, input, output, errors),
+        Asked::Look(report) => report_state(rt, report, output, errors),
+        Asked::Check(check) => check_scripts(rt, check, output, errors),
+        Asked::Make(image) => make_image(rt, image, output, errors),
+        Asked::Find(path) => find(rt, path, output, errors),
     }
 }
 

@@ -1,22 +1,19 @@
 //! What stands in for the hardware of a dry run.
-ghost use Rattle.std.specs.Prelude.{◌≡◌, IfOk, MatchOption, map, option_map};
+ghost use Rattle.std.specs.Prelude.{◌≡◌, IfErr, IfOk, map, option_map};
 ghost use Rattle.fw_arguments.specs.DryRuns.{dry_run_view, texts};
 ghost use Rattle.fw_files.specs.Files.{AreRulesOf};
-ghost use Rattle.fw_files.specs.Said.{SaysSome};
 ghost use Rattle.hush_commands.specs.Hardware.{hardware};
+ghost use Rattle.fw_tools.specs.ScriptRuns.{IsNoScript};
 ghost use Rattle.fw_tools.specs.WantedHardware.{AreStandInsOf, IsHardwareOf, with_leavings};
 
+use crate::halt::Halt;
 use fw_arguments::DryRun;
-use fw_engines::streams::write_three;
-use fw_files::{Explains, FileFault, System, read_board, read_stand_ins, value_or_say};
+use fw_files::{FileFault, System, read_board, read_stand_ins};
 use hush_commands::BoardRules;
 use hush_run::{Leaving, Stubs};
 use std::alloc::{AllocError, Global};
-use std::io::Write;
 
-/// Before, within and after a name of `--boots` or `--resets` of which there is no stand-in.
-const INVALID_VALUE: &[u8] = b"error: invalid value '";
-
+/// Behind a name of `--boots` or `--resets` of which there is no stand-in.
 const NO_BOOT: &[u8] =
     b"' for '--boots <NAME>': no stand-in has this name\n\nFor more information, try '--help'.\n";
 
@@ -32,67 +29,53 @@ pub(crate) struct GivenHardware {
     pub(crate) board: BoardRules,
 }
 
-/// The rules of a board file, of which answers may be open if the board may be asked; a fault is reported on `errors`.
-pub(crate) fn board_or_say<X: System + AllocGlobal, E: Write>(
+/// The rules of a board file, of which answers may be open if the board may be asked.
+pub(crate) fn board_rules<'w, X: System + AllocGlobal>(
     rt: &X,
-    path: Option<&str>,
+    path: Option<&'w str>,
     may_ask: bool,
-    explains: Explains,
-    errors: &mut E,
-) -> Option<BoardRules>
-    ensures { MatchOption result (SaysSome (E.contents errors.old) (E.contents errors.new))
-        (λ rules. AreRulesOf (X.holds rt.now) may_ask (option_map (λ p. p.now) path.entry) rules × (E.contents errors.new ≡ E.contents errors.old)) }
+) -> Result<BoardRules, Halt<'w>>
+    ensures read { IfOk result (AreRulesOf (X.holds rt.now) may_ask (option_map (λ p. p.now) path.entry)) }
+    ensures halted { IfErr result IsNoScript }
 {
-    value_or_say(
-        rt.alloc(),
-        errors,
-        explains,
-        path.unwrap_or(""),
-        read_board(rt, path, may_ask),
-    )
-}
-
-/// What stands in for the hardware of a dry run, and may leave answers open if the board may be asked; a fault is reported
-/// on `errors`.
-pub(crate) fn hardware_or_say<X: System + AllocGlobal, E: Write>(
-    rt: &X,
-    run: &DryRun<'_, '_>,
-    may_ask: bool,
-    explains: Explains,
-    errors: &mut E,
-) -> Option<GivenHardware>
-    ensures { MatchOption result (SaysSome (E.contents errors.old) (E.contents errors.new))
-        (λ given. IsHardwareOf (X.holds rt.now) may_ask (dry_run_view run.now) (hardware given.board given.stand_ins) × (E.contents errors.new ≡ E.contents errors.old)) }
-{
-    let stand_ins = stand_ins_or_say(rt, run, explains, errors)?;
-    let board = board_or_say(rt, run.board, may_ask, explains, errors)?;
-    Some(GivenHardware { stand_ins, board })
-}
-
-/// The stand-ins, with those of the names that are given made to leave the board; a fault is reported on `errors`, and so
-/// is a name of which there is no stand-in.
-fn stand_ins_or_say<X: System + AllocGlobal, E: Write>(
-    rt: &X,
-    run: &DryRun<'_, '_>,
-    explains: Explains,
-    errors: &mut E,
-) -> Option<Stubs>
-    ensures { MatchOption result (SaysSome (E.contents errors.old) (E.contents errors.new))
-        (λ stand_ins. AreStandInsOf (X.holds rt.now) (dry_run_view run.now) stand_ins × (E.contents errors.new ≡ E.contents errors.old)) }
-{
-    let path = run.stand_ins.unwrap_or("");
-    let outcome = stand_ins_of(rt, run);
-    let stand_ins = value_or_say(rt.alloc(), errors, explains, path, outcome)?;
-    match name_at_fault(&stand_ins, run) {
-        None => Some(stand_ins),
-        Some((name, fault)) => {
-            let _ = write_three(errors, INVALID_VALUE, name.as_bytes(), fault);
-            None
-        }
+    match read_board(rt, path, may_ask) {
+        Ok(board) => Ok(board),
+        Err(fault) => Err(Halt::at(path.unwrap_or(""), fault)),
     }
 }
 
-/// The first name given of which there is no stand-in, and what is said of it.
+/// What stands in for the hardware of a dry run, and may leave answers open if the board may be asked.
+pub(crate) fn read_hardware<'w, X: System + AllocGlobal>(
+    rt: &X,
+    run: &DryRun<'_, 'w>,
+    may_ask: bool,
+) -> Result<GivenHardware, Halt<'w>>
+    ensures halted { IfErr result IsNoScript }
+    ensures read { IfOk result (λ given. IsHardwareOf (X.holds rt.now) may_ask (dry_run_view run.now) (hardware given.board given.stand_ins)) }
+{
+    let stand_ins = given_stand_ins(rt, run)?;
+    let board = board_rules(rt, run.board, may_ask)?;
+    Ok(GivenHardware { stand_ins, board })
+}
+
+/// The stand-ins, with those of the names that are given made to leave the board, unless there is none of such a name.
+fn given_stand_ins<'w, X: System + AllocGlobal>(
+    rt: &X,
+    run: &DryRun<'_, 'w>,
+) -> Result<Stubs, Halt<'w>>
+    ensures read { IfOk result (AreStandInsOf (X.holds rt.now) (dry_run_view run.now)) }
+    ensures halted { IfErr result IsNoScript }
+{
+    match stand_ins_of(rt, run) {
+        Err(fault) => Err(Halt::at(run.stand_ins.unwrap_or(""), fault)),
+        Ok(stand_ins) => match name_at_fault(&stand_ins, run) {
+            None => Ok(stand_ins),
+            Some((name, back)) => Err(Halt::NoStandIn(name, back)),
+        },
+    }
+}
+
+/// The first name given of which there is no stand-in, and what is said behind it.
 fn name_at_fault<'w>(stand_ins: &Stubs, run: &DryRun<'_, 'w>) -> Option<(&'w str, &'static [u8])> {
     match name_without(stand_ins, run.boots) {
         Some(name) => Some((name, NO_BOOT)),

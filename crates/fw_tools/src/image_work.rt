@@ -1,93 +1,78 @@
 //! `image`: the image of a text's variables is made, and printed or written into a file.
-ghost use Rattle.std.specs.Prelude.{◌≡◌, ◌≤◌, MatchOption, option_map, unwrap_or};
+ghost use Rattle.std.specs.Prelude.{◌≡◌, IfOk, MatchResult, option_map};
 ghost use Rattle.envimg_core.specs.Geometry.{room_of};
 ghost use Rattle.fw_arguments.specs.ImageRequests.{image_request_view};
-ghost use Rattle.fw_files.specs.Said.{SaysSome};
-ghost use Rattle.fw_tools.specs.NewImages.{MakesImage, PutsOutOrStops, image_bytes};
+ghost use Rattle.fw_tools.specs.Said.{AreSame};
+ghost use Rattle.fw_tools.specs.NewImages.{MakesImage, PutsOut, image_bytes};
 
+use crate::halt::Halt;
 use crate::new_image::new_image;
 use crate::printing::print_text;
+use crate::tool_messages::report;
 use envimg_core::Geometry;
 use envvars_core::Vars;
 use fw_arguments::ImageRequest;
-use fw_engines::OUT_OF_MEMORY;
-use fw_engines::streams::say;
-use fw_files::{Explains, System, report, value_or_say, variables_or_say, write_file};
-use std::alloc::Global;
+use fw_files::{Stop, System, read_variables, write_file};
+use std::alloc::{AllocError, Global};
 use std::io::Write;
 
 /// Makes the image that is asked for, and answers the exit status.
-pub(crate) fn run_image<X: System + AllocGlobal, W: Write, E: Write>(
+pub(crate) fn make_image<'w, X: System + AllocGlobal, W: Write, E: Write>(
     rt: &X,
-    asked: &ImageRequest<'_>,
+    asked: &ImageRequest<'w>,
     output: &mut W,
     errors: &mut E,
-) -> u8
-    ensures status { result ≤ 1 }
-    ensures makes { MakesImage (X.holds rt.now) (X.wrote rt.now) (image_request_view asked.now)
+) -> Result<u8, Halt<'w>>
+    ensures { MatchResult result (MakesImage (X.holds rt.now) (X.wrote rt.now) (image_request_view asked.now)
         (record { output = W.contents output.old; errors = E.contents errors.old })
-        (record { output = W.contents output.new; errors = E.contents errors.new }) result }
+        (record { output = W.contents output.new; errors = E.contents errors.new }))
+        (λ _. AreSame (record { output = W.contents output.old; errors = E.contents errors.old })
+        (record { output = W.contents output.new; errors = E.contents errors.new })) }
 {
-    make_image(rt, asked, output, errors).unwrap_or(1)
-}
-
-/// The same; `None` if a file can't be used, or memory ran out.
-fn make_image<X: System + AllocGlobal, W: Write, E: Write>(
-    rt: &X,
-    asked: &ImageRequest<'_>,
-    output: &mut W,
-    errors: &mut E,
-) -> Option<u8>
-    ensures { MakesImage (X.holds rt.now) (X.wrote rt.now) (image_request_view asked.now)
-        (record { output = W.contents output.old; errors = E.contents errors.old })
-        (record { output = W.contents output.new; errors = E.contents errors.new }) (unwrap_or result 1) }
-{
-    // always `Some`: the size is one that the layout may have
-    let geometry = Geometry::with_order(asked.layout, asked.size, asked.order)?;
-    let vars = variables_or_say(rt, geometry.room(), asked.text, errors)?;
-    let image = image_or_say(rt.alloc(), geometry, asked.both, vars, errors)?;
+    let Some(geometry) = Geometry::with_order(asked.layout, asked.size, asked.order) else {
+        // never: the size is one that the layout may have
+        return Err(Halt::Files(Stop::Memory));
+    };
+    let vars = read_variables(rt, geometry.room(), asked.text)?;
+    let image = image_of(rt.alloc(), geometry, asked.both, vars)?;
     put_out(rt, asked.output, &image, output, errors)
 }
 
-/// The bytes of the image; if memory runs out, that is reported on `errors`.
-fn image_or_say<E: Write>(
+/// The bytes of the image.
+fn image_of(
     alloc: Global,
     geometry: Geometry,
     both: bool,
     vars: Vars,
-    errors: &mut E,
-) -> Option<Vec<u8>>
+) -> Result<Vec<u8>, AllocError>
     requires { vars.room ≡ room_of geometry }
-    ensures { MatchOption result (SaysSome (E.contents errors.old) (E.contents errors.new))
-        (λ image. (image.items ≡ image_bytes geometry both vars.env) × (E.contents errors.new ≡ E.contents errors.old)) }
+    ensures { IfOk result (λ image. image.items ≡ image_bytes geometry both vars.env) }
 {
     match new_image(alloc, geometry, both, vars) {
-        Ok(image) => Some(image),
-        Err(_) => {
-            say(errors, OUT_OF_MEMORY);
-            None
-        }
+        Ok(image) => Ok(image),
+        Err(_) => Err(AllocError),
     }
 }
 
-/// Prints the image, or writes it into a file; `None` if that file can't be used.
-fn put_out<X: System + AllocGlobal, W: Write, E: Write>(
+/// Prints the image, or writes it into a file.
+fn put_out<'w, X: System + AllocGlobal, W: Write, E: Write>(
     rt: &X,
-    path: Option<&str>,
+    path: Option<&'w str>,
     image: &[u8],
     output: &mut W,
     errors: &mut E,
-) -> Option<u8>
-    ensures { PutsOutOrStops (X.wrote rt.now) (option_map (λ p. p.now) path.entry) image.now
+) -> Result<u8, Halt<'w>>
+    ensures { MatchResult result (PutsOut (X.wrote rt.now) (option_map (λ p. p.now) path.entry) image.now
         (record { output = W.contents output.old; errors = E.contents errors.old })
-        (record { output = W.contents output.new; errors = E.contents errors.new }) (unwrap_or result 1) }
+        (record { output = W.contents output.new; errors = E.contents errors.new }))
+        (λ _. AreSame (record { output = W.contents output.old; errors = E.contents errors.old })
+        (record { output = W.contents output.new; errors = E.contents errors.new })) }
 {
     match path {
-        None => Some(report(print_text(image, 0, output), errors)),
-        Some(path) => {
-            let written = write_file(rt, path, image);
-            value_or_say(rt.alloc(), errors, Explains::Reason, path, written)?;
-            Some(0)
-        }
+        None => Ok(report(print_text(image, 0, output), errors)),
+        Some(path) => match write_file(rt, path, image) {
+            Ok(()) => Ok(0),
+            Err(fault) => Err(Halt::at(path, fault)),
+        },
     }
 }

@@ -1,16 +1,16 @@
 //! What tools print: variables in a way, and whole texts.
-ghost use Rattle.std.specs.Prelude.{Some, MatchOption, map};
+ghost use Rattle.std.specs.Prelude.{Some, MatchResult, map};
 ghost use Rattle.fw_tools.specs.Subcommands.{printed_so};
 ghost use Rattle.fw_arguments.specs.Calls.{texts};
-ghost use Rattle.fw_files.specs.Said.{SaysOnly};
+ghost use Rattle.fw_tools.specs.Said.{AreSame};
 ghost use Rattle.fw_engines.specs.Tool.{Printed, Prints, PrintsText};
 
-use crate::task_work::bytes_or_say;
+use crate::task_work::bytes_of;
 use env_session::Session;
 use fw_arguments::Printing;
 use fw_engines::streams::write_text;
 use fw_engines::{StreamFault, ToolEnd, print_values, printenv};
-use std::alloc::Global;
+use std::alloc::{AllocError, Global};
 use std::io::Write;
 
 /// Prints a text, and ends with this status.
@@ -32,20 +32,20 @@ pub(crate) fn print<W: Write, E: Write>(
     printing: Printing,
     output: &mut W,
     errors: &mut E,
-) -> Option<ToolEnd>
-    ensures { MatchOption result (SaysOnly (record { output = W.contents output.old; errors = E.contents errors.old })
-        (record { output = W.contents output.new; errors = E.contents errors.new }))
-        (λ end. Printed end.fault (record { output = W.contents output.old; errors = E.contents errors.old })
+) -> Result<ToolEnd, AllocError>
+    ensures { MatchResult result (λ end. Printed end.fault (record { output = W.contents output.old; errors = E.contents errors.old })
         (record { output = W.contents output.new; errors = E.contents errors.new })
-        (printed_so printing session.now.now.env (texts names.entry)) end.status) }
+        (printed_so printing session.now.now.env (texts names.entry)) end.status)
+        (λ _. AreSame (record { output = W.contents output.old; errors = E.contents errors.old })
+        (record { output = W.contents output.new; errors = E.contents errors.new })) }
 {
-    let names = bytes_or_say(alloc, names, errors)?;
+    let names = bytes_of(alloc, names)?;
     let mut text = Vec::new(alloc);
     let mut messages = Vec::new(alloc);
     let end = print_so(session, &names, printing, &mut text, &mut messages);
     match end.fault {
-        Some(_) => Some(ToolEnd::stopped(StreamFault::Memory)),
-        None => Some(write_both(&text, &messages, end.status, output, errors)),
+        Some(_) => Ok(ToolEnd::stopped(StreamFault::Memory)),
+        None => Ok(write_both(&text, &messages, end.status, output, errors)),
     }
 }
 

@@ -1,19 +1,16 @@
 //! The script that `run` is given: its text, and the text read as a script.
-ghost use Rattle.std.specs.Prelude.{◌≡◌, ◌++◌, IfOk, MatchOption, Some, map};
+ghost use Rattle.std.specs.Prelude.{◌≡◌, ◌++◌, IfOk, MatchResult, Some, map};
 ghost use Rattle.std.specs.List.{flat_map};
 ghost use Rattle.hush_syntax.specs.Reading.{read_in};
 ghost use Rattle.hush_syntax.specs.Scripts.{tree_of};
 ghost use Rattle.fw_arguments.specs.DryRuns.{script_view};
-ghost use Rattle.fw_files.specs.Said.{SaysSome};
-ghost use Rattle.fw_tools.specs.ScriptRuns.{IsTextOf, Refuses, name_of_script, quoted, quoted_name, starts};
+ghost use Rattle.fw_tools.specs.ScriptRuns.{IsHaltOf, IsNoScript, IsTextOf, name_of_script, quoted, quoted_name, starts};
 
+use crate::halt::Halt;
 use fw_arguments::GivenScript;
-use fw_engines::streams::say;
-use fw_engines::{OUT_OF_MEMORY, say_syntax_fault};
-use fw_files::{Explains, FileFault, System, read_text, value_or_say};
+use fw_files::{FileFault, Stop, System, read_text};
 use hush_syntax::{Bodies, FaultKind, Script};
 use std::alloc::{AllocError, Global};
-use std::io::Write;
 
 /// The name that a script has in a message that it isn't one.
 pub(crate) fn name_of_script<'w>(given: &GivenScript<'_, 'w>) -> &'w str
@@ -34,25 +31,20 @@ fn path_of_script<'w>(given: &GivenScript<'_, 'w>) -> &'w str {
     }
 }
 
-/// The text of a script; a fault is reported on `errors`.
-pub(crate) fn text_or_say<X: System + AllocGlobal, E: Write>(
+/// The text of a script.
+pub(crate) fn read_script<'w, X: System + AllocGlobal>(
     rt: &X,
-    given: &GivenScript<'_, '_>,
-    errors: &mut E,
-) -> Option<Vec<u8>>
-    ensures { MatchOption result (SaysSome (E.contents errors.old) (E.contents errors.new))
-        (λ text. IsTextOf (X.holds rt.now) (script_view given.now) text.items × (E.contents errors.new ≡ E.contents errors.old)) }
+    given: &GivenScript<'_, 'w>,
+) -> Result<Vec<u8>, Halt<'w>>
+    ensures { MatchResult result (λ text. IsTextOf (X.holds rt.now) (script_view given.now) text.items) IsNoScript }
 {
-    value_or_say(
-        rt.alloc(),
-        errors,
-        Explains::Reason,
-        path_of_script(given),
-        read_given(rt, given),
-    )
+    match read_given(rt, given) {
+        Ok(text) => Ok(text),
+        Err(fault) => Err(Halt::at(path_of_script(given), fault)),
+    }
 }
 
-/// The text of a script.
+/// The same, with its fault alone.
 fn read_given<X: System + AllocGlobal>(
     rt: &X,
     given: &GivenScript<'_, '_>,
@@ -109,47 +101,21 @@ fn push_quoted(text: &mut Vec<u8>, byte: u8) -> Result<(), AllocError>
     Ok(())
 }
 
-/// The script in a text, if its bodies may be so. If it isn't one, that is reported on `errors`, with its place.
-pub(crate) fn script_or_say<E: Write>(
+/// The script in a text, if its bodies may be so; or where and why the text of this name isn't one.
+pub(crate) fn script_in<'w>(
     alloc: Global,
     bodies: Bodies,
-    name: &str,
-    text: &[u8],
-    errors: &mut E,
-) -> Option<Script>
-    ensures { MatchOption result (Refuses bodies name.now text.now (E.contents errors.old) (E.contents errors.new))
-        (λ script. (read_in bodies text.now ≡ Some (tree_of script)) × (E.contents errors.new ≡ E.contents errors.old)) }
+    name: &'w str,
+    text: Vec<u8>,
+) -> Result<Script, Halt<'w>>
+    ensures { MatchResult result (λ script. read_in bodies text.items ≡ Some (tree_of script)) (IsHaltOf bodies name.now text.items) }
 {
-    match Vec::from_slice(alloc, text) {
-        Ok(copy) => parsed_or_say(alloc, bodies, name, text, copy, errors),
-        Err(_) => {
-            say(errors, OUT_OF_MEMORY);
-            None
-        }
-    }
-}
-
-/// The same for a text and its copy.
-fn parsed_or_say<E: Write>(
-    alloc: Global,
-    bodies: Bodies,
-    name: &str,
-    text: &[u8],
-    copy: Vec<u8>,
-    errors: &mut E,
-) -> Option<Script>
-    requires { copy.items ≡ text.now }
-    ensures { MatchOption result (Refuses bodies name.now text.now (E.contents errors.old) (E.contents errors.new))
-        (λ script. (read_in bodies text.now ≡ Some (tree_of script)) × (E.contents errors.new ≡ E.contents errors.old)) }
-{
+    let copy = Vec::from_slice(alloc, &text)?;
     match Script::parse_in(alloc, copy, bodies) {
-        Ok(script) => Some(script),
-        Err(fault) => {
-            match fault.kind {
-                FaultKind::Memory => say(errors, OUT_OF_MEMORY),
-                _ => say_syntax_fault(errors, name.as_bytes(), text, fault),
-            }
-            None
-        }
+        Ok(script) => Ok(script),
+        Err(fault) => match fault.kind {
+            FaultKind::Memory => Err(Halt::Files(Stop::Memory)),
+            _ => Err(Halt::Script(name, text, fault)),
+        },
     }
 }

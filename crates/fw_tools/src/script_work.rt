@@ -1,74 +1,66 @@
 //! `run`: a script is run over a session for its own status.
-ghost use Rattle.std.specs.Prelude.{◌≡◌, is_some, option_map, unwrap_or};
+ghost use Rattle.std.specs.Prelude.{◌≡◌, MatchResult, is_some, option_map};
 ghost use Rattle.device_files.specs.Record.{calls_in};
 ghost use Rattle.hush_syntax.specs.Scripts.{tree_of};
 ghost use Rattle.hush_commands.specs.Hardware.{hardware};
 ghost use Rattle.fw_arguments.specs.DryRuns.{script_run_view};
 ghost use Rattle.fw_tools.specs.Closing.{Closes};
-ghost use Rattle.fw_tools.specs.ScriptRuns.{RunsOver, RunsText, RunsTree, is_kept};
+ghost use Rattle.fw_tools.specs.Said.{AreSame};
+ghost use Rattle.fw_tools.specs.ScriptRuns.{HaltsRun, IsScriptFor, RunsOver, RunsTree, is_kept};
 
-use crate::hardware::{GivenHardware, hardware_or_say};
-use crate::script_source::{name_of_script, script_or_say, text_or_say};
+use crate::closing::write_back;
+use crate::explains::Explains;
+use crate::halt::Halt;
+use crate::hardware::{GivenHardware, read_hardware};
+use crate::script_source::{name_of_script, read_script, script_in};
+use crate::tool_messages::report;
 use device_files::{OpenDevice, Start};
 use env_requests::RunRules;
 use env_session::Session;
 use envimg_core::Choice;
 use fw_arguments::ScriptRun;
-use fw_files::{Explains, Source, System, report, write_back};
+use fw_files::{Source, System};
 use fw_session::{RunEnd, run};
 use hush_run::{Ending, bodies_of};
 use hush_syntax::Script;
 use std::io::Write;
 
-/// Runs the script that is asked for over a session, and leaves the session; `None` if a file can't be used before.
-pub(crate) fn run_given<X: System + AllocGlobal, D: Start, W: Write, E: Write>(
+/// Runs the script that is asked for over a session, and leaves the session.
+pub(crate) fn run_given<'w, X: System + AllocGlobal, D: Start, W: Write, E: Write>(
     rt: &X,
     source: &Source,
     opened: Session,
-    asked: &ScriptRun<'_, '_>,
+    asked: &ScriptRun<'_, 'w>,
     devices: &mut Option<OpenDevice<X::File, D>>,
     output: &mut W,
     errors: &mut E,
-) -> Option<u8>
-    ensures { RunsOver (X.holds rt.now) (script_run_view asked.now) source.now opened
+) -> Result<u8, Halt<'w>>
+    ensures { MatchResult result (RunsOver (X.holds rt.now) (script_run_view asked.now) source.now opened
         (record { start = D.contents; before = option_map (λ d. calls_in d.calls) devices.old; after = option_map (λ d. calls_in d.calls) devices.new })
         (record { output = W.contents output.old; errors = E.contents errors.old })
-        (record { output = W.contents output.new; errors = E.contents errors.new }) (unwrap_or result 1) }
+        (record { output = W.contents output.new; errors = E.contents errors.new }))
+        (λ halt. HaltsRun (X.holds rt.now) (script_run_view asked.now) halt
+        × AreSame (record { output = W.contents output.old; errors = E.contents errors.old })
+        (record { output = W.contents output.new; errors = E.contents errors.new }) × (devices.new ≡ devices.old)) }
 {
-    let hardware = hardware_or_say(rt, &asked.dry, false, Explains::Reason, errors)?;
-    let text = text_or_say(rt, &asked.script, errors)?;
-    Some(run_text(
-        rt, source, opened, asked, &hardware, &text, devices, output, errors,
+    let hardware = read_hardware(rt, &asked.dry, false)?;
+    let script = script_of(rt, asked)?;
+    Ok(run_script(
+        rt, source, opened, asked, &hardware, &script, devices, output, errors,
     ))
 }
 
-/// Runs a text, if it is a script.
-fn run_text<X: System + AllocGlobal, D: Start, W: Write, E: Write>(
+/// The script that is asked for.
+fn script_of<'w, X: System + AllocGlobal>(
     rt: &X,
-    source: &Source,
-    opened: Session,
-    asked: &ScriptRun<'_, '_>,
-    given: &GivenHardware,
-    text: &[u8],
-    devices: &mut Option<OpenDevice<X::File, D>>,
-    output: &mut W,
-    errors: &mut E,
-) -> u8
-    ensures { RunsText (script_run_view asked.now) (hardware given.now.board given.now.stand_ins) text.now source.now opened
-        (record { start = D.contents; before = option_map (λ d. calls_in d.calls) devices.old; after = option_map (λ d. calls_in d.calls) devices.new })
-        (record { output = W.contents output.old; errors = E.contents errors.old })
-        (record { output = W.contents output.new; errors = E.contents errors.new }) result }
+    asked: &ScriptRun<'_, 'w>,
+) -> Result<Script, Halt<'w>>
+    ensures { MatchResult result (λ script. IsScriptFor (X.holds rt.now) (script_run_view asked.now) (tree_of script))
+        (HaltsRun (X.holds rt.now) (script_run_view asked.now)) }
 {
+    let text = read_script(rt, &asked.script)?;
     let bodies = bodies_of(asked.dry.shell);
-    let name = name_of_script(&asked.script);
-    match script_or_say(rt.alloc(), bodies, name, text, errors) {
-        None => 1,
-        Some(script) => {
-            run_script(
-                rt, source, opened, asked, given, &script, devices, output, errors,
-            )
-        }
-    }
+    script_in(rt.alloc(), bodies, name_of_script(&asked.script), text)
 }
 
 /// Runs a script over a session, and leaves the session.

@@ -1,5 +1,5 @@
 //! `session`: a dry run over standard input and output.
-ghost use Rattle.std.specs.Prelude.{◌≡◌, ℕ, List, IfSome, MatchOption, Option, option_map, unwrap_or};
+ghost use Rattle.std.specs.Prelude.{◌≡◌, ℕ, List, IfSome, MatchOption, MatchResult, Option, option_map};
 ghost use Rattle.device_files.specs.Record.{calls_in};
 ghost use Rattle.env_session.specs.Session.{bytes_of};
 ghost use Rattle.envimg_core.specs.declared.choice.Choice.TheVariants.{Second};
@@ -8,11 +8,16 @@ ghost use Rattle.hush_run.specs.Runs.{rules_in};
 ghost use Rattle.fw_session.specs.Ends.{Ends};
 ghost use Rattle.fw_session.specs.NamedSessions.{named_session, unnamed};
 ghost use Rattle.fw_arguments.specs.DryRuns.{dry_run_view};
-ghost use Rattle.fw_files.specs.Said.{SaysSome};
+ghost use Rattle.fw_tools.specs.Said.{AreSame, SaysSome};
 ghost use Rattle.fw_files.specs.WrittenBack.{AreWritten, LeavesAtAnyMoment};
 ghost use Rattle.fw_tools.specs.SessionRun.{ClosesDryRun, Reports, TriesOver, WaitsAndWarns, is_kept, text_for};
 
-use crate::hardware::{GivenHardware, hardware_or_say};
+use crate::closing::write_back;
+use crate::explains::Explains;
+use crate::halt::Halt;
+use crate::halt_lines::say_halt;
+use crate::hardware::{GivenHardware, read_hardware};
+use crate::tool_messages::message_of;
 use device_files::{OpenDevice, Start};
 use env_requests::RunRules;
 use env_session::{Session, Stored};
@@ -20,34 +25,36 @@ use envimg_core::Choice;
 use fw_arguments::{DryRun, LockFiles};
 use fw_engines::StreamFault;
 use fw_engines::streams::say;
-use fw_files::{Explains, Hold, Source, System, lock_copies, message_of, write_back};
+use fw_files::{Hold, Source, System, lock_copies};
 use fw_session::{SessionEnd, SessionEnding, session_in};
 use std::io::{Read, Write};
 
 /// Standard error if the input of a session is longer than it may be.
 const TOO_LONG: &[u8] = b"fwenv: input too long\n";
 
-/// Answers the blocks and dot lines of `input` over a session, and leaves it; `None` if a file can't be used before.
-pub(crate) fn talk<X: System + AllocGlobal, D: Start, R: Read, W: Write, E: Write>(
+/// Answers the blocks and dot lines of `input` over a session, and leaves it.
+pub(crate) fn talk<'w, X: System + AllocGlobal, D: Start, R: Read, W: Write, E: Write>(
     rt: &X,
     source: &Source,
     opened: Session,
-    run: &DryRun<'_, '_>,
+    run: &DryRun<'_, 'w>,
     locks: LockFiles<'_>,
     devices: &mut Option<OpenDevice<X::File, D>>,
     input: &mut R,
     output: &mut W,
     errors: &mut E,
-) -> Option<u8>
-    ensures { TriesOver (X.holds rt.now) (dry_run_view run.now) source.now opened
+) -> Result<u8, Halt<'w>>
+    ensures { MatchResult result (TriesOver (X.holds rt.now) (dry_run_view run.now) source.now opened
         (record { start = D.contents; before = option_map (λ d. calls_in d.calls) devices.old; after = option_map (λ d. calls_in d.calls) devices.new })
         (record { input = R.remaining input.old; output = W.contents output.old; errors = E.contents errors.old })
-        (record { input = R.remaining input.new; output = W.contents output.new; errors = E.contents errors.new })
-        (unwrap_or result 1) }
+        (record { input = R.remaining input.new; output = W.contents output.new; errors = E.contents errors.new }))
+        (λ _. (R.remaining input.new ≡ R.remaining input.old)
+        × AreSame (record { output = W.contents output.old; errors = E.contents errors.old })
+        (record { output = W.contents output.new; errors = E.contents errors.new }) × (devices.new ≡ devices.old)) }
 {
-    let given = hardware_or_say(rt, run, false, Explains::Nothing, errors)?;
+    let given = read_hardware(rt, run, false)?;
     let end = answer(rt, opened, run, &given, input, output);
-    Some(leave(rt, source, run.write, locks, end, devices, errors))
+    Ok(leave(rt, source, run.write, locks, end, devices, errors))
 }
 
 /// Answers the blocks and dot lines of `input` over a session, with this hardware. Somebody who types them is told where
@@ -117,8 +124,12 @@ fn write_locked<X: System + AllocGlobal, D: Start, E: Write>(
 {
     *devices = None;
     match lock_copies(rt, &source.config.first, locks, Hold::Alone, errors) {
-        None => None,
-        Some(_locks) => write_back(
+        Err(stop) => {
+            let halt = Halt::Files(stop);
+            say_halt(rt.alloc(), errors, Explains::Nothing, &halt);
+            None
+        }
+        Ok(_locks) => write_back(
             rt,
             source,
             Choice::Second,

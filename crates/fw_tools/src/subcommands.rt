@@ -1,159 +1,108 @@
 //! The subcommands over the files that the arguments name.
-ghost use Rattle.std.specs.Prelude.{◌≡◌, ◌≤◌, Some, true, option_map, None, IfSome, MatchOption, if◌then◌else◌, is_some, unwrap_or};
-ghost use Rattle.fw_files.specs.Opening.{AreCopiesIn, AreWantedIn};
-ghost use Rattle.fw_files.specs.Source.{AreSettingsAt};
-ghost use Rattle.envcfg_core.specs.Config.{config_view};
-ghost use Rattle.fw_tools.specs.CheckRuns.{unchecked};
+ghost use Rattle.std.specs.Prelude.{◌≡◌, IfOk, MatchResult, None, Some, if◌then◌else◌, is_some, option_map, true};
 ghost use Rattle.device_files.specs.Record.{calls_in};
 ghost use Rattle.envimg_core.specs.declared.choice.Choice.TheVariants.{Second};
-ghost use Rattle.fw_tools.specs.Closing.{Closes};
-ghost use Rattle.fw_tools.specs.Subcommands.{DoesJob, Uses, UsesTool, hold_for, is_left, keeps_locks, stopped_status};
 ghost use Rattle.fw_arguments.specs.Calls.{call_view, job_view, keeps_lock, task_view};
 ghost use Rattle.fw_files.specs.Locks.{HasWaited};
-ghost use Rattle.fw_files.specs.Said.{SaysSome};
+ghost use Rattle.fw_files.specs.Opening.{AreCopiesIn, AreWantedIn};
+ghost use Rattle.fw_tools.specs.Closing.{Closes};
+ghost use Rattle.fw_tools.specs.Said.{AreSame};
+ghost use Rattle.fw_tools.specs.Subcommands.{DoesJob, HaltsCall, HaltsJob, UsesSession, UsesTool, hold_for, is_left, keeps_locks};
 
 use crate::boot_work::boot_given;
-use crate::check_work::{UNCHECKED, check_session};
+use crate::check_work::check_session;
+use crate::closing::write_back;
+use crate::explains::Explains;
+use crate::halt::Halt;
 use crate::script_work::run_given;
 use crate::session_run::talk;
 use crate::task_work::act;
+use crate::tool_messages::report;
 use device_files::{OpenDevice, Start};
 use env_session::Session;
-use envcfg_core::Config;
 use envimg_core::Choice;
 use fw_arguments::{Call, Job, Task};
 use fw_engines::ToolEnd;
+use fw_engines::streams::say;
 use fw_files::{
-    Explains, Hold, Locks, Source, System, config_or_say, erased_or_say, lock_copies, open,
-    read_source, report, wanted_or_say, write_back,
+    Hold, Locks, Source, Stop, System, erased, lock_copies, open, read_config, read_source,
+    wanted_copies, warning_of,
 };
 use std::io::{Read, Write};
 
-/// Runs a subcommand and answers its exit status.
-pub(crate) fn run_call<X: System + AllocGlobal, D: Start, R: Read, W: Write, E: Write>(
+/// Opens the session, lets the subcommand work on it, and answers the exit status.
+pub(crate) fn use_files<'w, X: System + AllocGlobal, D: Start, R: Read, W: Write, E: Write>(
     rt: &X,
-    call: &Call<'_, '_>,
+    call: &Call<'_, 'w>,
     devices: &mut Option<OpenDevice<X::File, D>>,
     input: &mut R,
     output: &mut W,
     errors: &mut E,
-) -> u8
-    ensures status { result ≤ stopped_status (job_view call.now.job) }
-    ensures most { result ≤ unchecked }
-    ensures uses { Uses (X.holds rt.now) (call_view call.now)
+) -> Result<u8, Halt<'w>>
+    ensures { MatchResult result (UsesSession (X.holds rt.now) (call_view call.now)
         (record { start = D.contents; before = option_map (λ d. calls_in d.calls) devices.old; after = option_map (λ d. calls_in d.calls) devices.new })
         (record { input = R.remaining input.old; output = W.contents output.old; errors = E.contents errors.old })
-        (record { input = R.remaining input.new; output = W.contents output.new; errors = E.contents errors.new })
-        result }
-{
-    use_files(rt, call, devices, input, output, errors).unwrap_or(stopped_status(&call.job))
-}
-
-/// The status of a job whose files can't be used.
-fn stopped_status(job: &Job<'_, '_>) -> u8
-    ensures { result ≡ stopped_status (job_view job.now) }
-{
-    match job {
-        Job::Check(_) => UNCHECKED,
-        _ => 1,
-    }
-}
-
-/// Opens the session and lets the subcommand work on it; `None` if a file can't be used.
-fn use_files<X: System + AllocGlobal, D: Start, R: Read, W: Write, E: Write>(
-    rt: &X,
-    call: &Call<'_, '_>,
-    devices: &mut Option<OpenDevice<X::File, D>>,
-    input: &mut R,
-    output: &mut W,
-    errors: &mut E,
-) -> Option<u8>
-    ensures { Uses (X.holds rt.now) (call_view call.now)
+        (record { input = R.remaining input.new; output = W.contents output.new; errors = E.contents errors.new }))
+        (λ halt. HaltsCall (X.holds rt.now) (call_view call.now) halt
         (record { start = D.contents; before = option_map (λ d. calls_in d.calls) devices.old; after = option_map (λ d. calls_in d.calls) devices.new })
         (record { input = R.remaining input.old; output = W.contents output.old; errors = E.contents errors.old })
-        (record { input = R.remaining input.new; output = W.contents output.new; errors = E.contents errors.new })
-        (unwrap_or result (stopped_status (job_view call.now.job))) }
+        (record { input = R.remaining input.new; output = W.contents output.new; errors = E.contents errors.new })) }
 {
     let (source, _locks) = copies_for(rt, call, errors)?;
-    let session = open(
-        rt,
-        &source,
-        &call.defaults,
-        call.spares(),
-        Explains::by(call),
-        errors,
-    )?;
+    let session = open(rt, &source, &call.defaults, call.spares())?;
+    say(errors, warning_of(call.defaults.whole, session.current()));
     work(rt, &source, session, call, devices, input, output, errors)
 }
 
-/// The copies for a subcommand, of which it may want one, and the locks under which it works on them, if it has any; `None`
-/// if they can't be used.
-fn copies_for<X: System + AllocGlobal, E: Write>(
+/// The copies for a subcommand, of which it may want one, and the locks under which it works on them, if it has any.
+fn copies_for<'w, X: System + AllocGlobal, E: Write>(
     rt: &X,
-    call: &Call<'_, '_>,
+    call: &Call<'_, 'w>,
     errors: &mut E,
-) -> Option<(Source, Option<Locks<X::File>>)>
-    ensures locks { IfSome result (λ found. is_some found.1 ≡ keeps_locks call.now.image (job_view call.now.job)) }
-    ensures found { MatchOption result (SaysSome (E.contents errors.old) (E.contents errors.new))
-        (λ found. AreWantedIn (X.holds rt.now) call.now.config.now call.now.image call.now.order call.now.copy found.0 × HasWaited (E.contents errors.old) (E.contents errors.new)) }
+) -> Result<(Source, Option<Locks<X::File>>), Stop<'w>>
+    ensures waited { HasWaited (E.contents errors.old) (E.contents errors.new) }
+    ensures locks { IfOk result (λ found. is_some found.1 ≡ keeps_locks call.now.image (job_view call.now.job)) }
+    ensures found { IfOk result (λ found. AreWantedIn (X.holds rt.now) call.now.config.now call.now.image call.now.order call.now.copy found.0) }
 {
     let (read, locks) = copies_in(rt, call, errors)?;
-    let source = wanted_or_say(rt.alloc(), read, call.copy, errors)?;
-    Some((source, locks))
+    let source = wanted_copies(rt.alloc(), read, call.copy)?;
+    Ok((source, locks))
 }
 
 /// The copies as they were read.
-fn copies_in<X: System + AllocGlobal, E: Write>(
+fn copies_in<'w, X: System + AllocGlobal, E: Write>(
     rt: &X,
-    call: &Call<'_, '_>,
+    call: &Call<'_, 'w>,
     errors: &mut E,
-) -> Option<(Source, Option<Locks<X::File>>)>
-    ensures locks { IfSome result (λ found. is_some found.1 ≡ keeps_locks call.now.image (job_view call.now.job)) }
-    ensures found { MatchOption result (SaysSome (E.contents errors.old) (E.contents errors.new))
-        (λ found. AreCopiesIn (X.holds rt.now) call.now.config.now call.now.image call.now.order found.0 × HasWaited (E.contents errors.old) (E.contents errors.new)) }
+) -> Result<(Source, Option<Locks<X::File>>), Stop<'w>>
+    ensures waited { HasWaited (E.contents errors.old) (E.contents errors.new) }
+    ensures locks { IfOk result (λ found. is_some found.1 ≡ keeps_locks call.now.image (job_view call.now.job)) }
+    ensures found { IfOk result (λ found. AreCopiesIn (X.holds rt.now) call.now.config.now call.now.image call.now.order found.0) }
 {
     match call.image {
         None => copies_in_devices(rt, call, errors),
         Some(size) => {
-            let source = erased_or_say(rt.alloc(), call.order, size, errors)?;
-            Some((source, None))
+            let source = erased(rt.alloc(), call.order, size)?;
+            Ok((source, None))
         }
     }
 }
 
 /// The same for the copies that the configuration names.
-fn copies_in_devices<X: System + AllocGlobal, E: Write>(
+fn copies_in_devices<'w, X: System + AllocGlobal, E: Write>(
     rt: &X,
-    call: &Call<'_, '_>,
+    call: &Call<'_, 'w>,
     errors: &mut E,
-) -> Option<(Source, Option<Locks<X::File>>)>
-    ensures locks { IfSome result (λ found. is_some found.1 ≡ keeps_lock (job_view call.now.job)) }
-    ensures found { MatchOption result (SaysSome (E.contents errors.old) (E.contents errors.new))
-        (λ found. AreCopiesIn (X.holds rt.now) call.now.config.now None call.now.order found.0 × HasWaited (E.contents errors.old) (E.contents errors.new)) }
+) -> Result<(Source, Option<Locks<X::File>>), Stop<'w>>
+    ensures waited { HasWaited (E.contents errors.old) (E.contents errors.new) }
+    ensures locks { IfOk result (λ found. is_some found.1 ≡ keeps_lock (job_view call.now.job)) }
+    ensures found { IfOk result (λ found. AreCopiesIn (X.holds rt.now) call.now.config.now None call.now.order found.0) }
 {
-    let config = config_or_say(rt, call.config, Explains::by(call), errors)?;
+    let config = read_config(rt, call.config)?;
     let hold = hold_for(&call.job);
-    match lock_copies(rt, &config.first, call.locks, hold, errors) {
-        None => None,
-        Some(locks) => copies_under(rt, call, config, locks, errors),
-    }
-}
-
-/// The same once they are locked.
-fn copies_under<X: System + AllocGlobal, L: Drop, E: Write>(
-    rt: &X,
-    call: &Call<'_, '_>,
-    config: Config,
-    locks: L,
-    errors: &mut E,
-) -> Option<(Source, Option<L>)>
-    requires { AreSettingsAt (X.holds rt.now) call.now.config.now (config_view config) }
-    ensures locks { IfSome result (λ found. is_some found.1 ≡ keeps_lock (job_view call.now.job)) }
-    ensures found { MatchOption result (SaysSome (E.contents errors.old) (E.contents errors.new))
-        (λ found. AreCopiesIn (X.holds rt.now) call.now.config.now None call.now.order found.0 × (E.contents errors.new ≡ E.contents errors.old)) }
-{
-    let source = read_source(rt, call.order, config, Explains::by(call), errors)?;
-    Some((source, locks_for_work(locks, &call.job)))
+    let locks = lock_copies(rt, &config.first, call.locks, hold, errors)?;
+    let source = read_source(rt, call.order, config)?;
+    Ok((source, locks_for_work(locks, &call.job)))
 }
 
 /// How the device of the first copy and lock files are locked while the copies are read: exclusively by a job that writes
@@ -176,22 +125,25 @@ fn locks_for_work<L: Drop>(locks: L, job: &Job<'_, '_>) -> Option<L>
     if job.keeps_lock() { Some(locks) } else { None }
 }
 
-/// Works on a session, and leaves it; `None` if a file can't be used.
-fn work<X: System + AllocGlobal, D: Start, R: Read, W: Write, E: Write>(
+/// Works on a session, and leaves it.
+fn work<'w, X: System + AllocGlobal, D: Start, R: Read, W: Write, E: Write>(
     rt: &X,
     source: &Source,
     opened: Session,
-    call: &Call<'_, '_>,
+    call: &Call<'_, 'w>,
     devices: &mut Option<OpenDevice<X::File, D>>,
     input: &mut R,
     output: &mut W,
     errors: &mut E,
-) -> Option<u8>
-    ensures { DoesJob (X.holds rt.now) call.now.only_changes (call_view call.now).job source.now opened
+) -> Result<u8, Halt<'w>>
+    ensures { MatchResult result (DoesJob (X.holds rt.now) call.now.only_changes (call_view call.now).job source.now opened
         (record { start = D.contents; before = option_map (λ d. calls_in d.calls) devices.old; after = option_map (λ d. calls_in d.calls) devices.new })
         (record { input = R.remaining input.old; output = W.contents output.old; errors = E.contents errors.old })
-        (record { input = R.remaining input.new; output = W.contents output.new; errors = E.contents errors.new })
-        (unwrap_or result (stopped_status (job_view call.now.job))) }
+        (record { input = R.remaining input.new; output = W.contents output.new; errors = E.contents errors.new }))
+        (λ halt. HaltsJob (X.holds rt.now) (call_view call.now).job halt
+        (record { start = D.contents; before = option_map (λ d. calls_in d.calls) devices.old; after = option_map (λ d. calls_in d.calls) devices.new })
+        (record { input = R.remaining input.old; output = W.contents output.old; errors = E.contents errors.old })
+        (record { input = R.remaining input.new; output = W.contents output.new; errors = E.contents errors.new })) }
 {
     match &call.job {
         Job::Tool(task) => {
@@ -219,31 +171,33 @@ fn work<X: System + AllocGlobal, D: Start, R: Read, W: Write, E: Write>(
     }
 }
 
-/// Lets a tool work on the session, and writes it back; `None` if a file can't be used.
-fn use_tool<X: System + AllocGlobal, D: Start, W: Write, E: Write>(
+/// Lets a tool work on the session, and writes it back.
+fn use_tool<'w, X: System + AllocGlobal, D: Start, W: Write, E: Write>(
     rt: &X,
     source: &Source,
     opened: Session,
     only_changes: bool,
-    task: Task<'_, '_>,
+    task: Task<'_, 'w>,
     explains: Explains,
     devices: &mut Option<OpenDevice<X::File, D>>,
     output: &mut W,
     errors: &mut E,
-) -> Option<u8>
-    ensures { UsesTool (X.holds rt.now) only_changes (task_view task.entry) source.now opened
+) -> Result<u8, Halt<'w>>
+    ensures { MatchResult result (UsesTool (X.holds rt.now) only_changes (task_view task.entry) source.now opened
         (record { start = D.contents; before = option_map (λ d. calls_in d.calls) devices.old; after = option_map (λ d. calls_in d.calls) devices.new })
         (record { output = W.contents output.old; errors = E.contents errors.old })
-        (record { output = W.contents output.new; errors = E.contents errors.new }) (unwrap_or result 1) }
+        (record { output = W.contents output.new; errors = E.contents errors.new }))
+        (λ _. AreSame (record { output = W.contents output.old; errors = E.contents errors.old })
+        (record { output = W.contents output.new; errors = E.contents errors.new }) × (devices.new ≡ devices.old)) }
 {
     let mut session = opened;
     let current = session.current();
-    let end = act(rt, task, explains, &mut session, output, errors)?;
+    let end = act(rt, task, &mut session, output, errors)?;
     let touched = session.touched();
     if is_left(task.changes(), only_changes, current, touched) {
-        return Some(report(end, errors));
+        return Ok(report(end, errors));
     }
-    finish(rt, source, session, end, explains, devices, errors)
+    Ok(finish(rt, source, session, end, explains, devices, errors))
 }
 
 /// Whether the copies are left as they are, and not compared with what was read: by what changes nothing (`changes`), and,
@@ -270,13 +224,13 @@ fn finish<X: System + AllocGlobal, D: Start, E: Write>(
     explains: Explains,
     devices: &mut Option<OpenDevice<X::File, D>>,
     errors: &mut E,
-) -> Option<u8>
+) -> u8
     ensures { Closes true Second source.now session end
         (record { start = D.contents; before = option_map (λ d. calls_in d.calls) devices.old; after = option_map (λ d. calls_in d.calls) devices.new })
-        (E.contents errors.old) (E.contents errors.new) (unwrap_or result 1) }
+        (E.contents errors.old) (E.contents errors.new) result }
 {
     let stored = session.close();
-    write_back(
+    match write_back(
         rt,
         source,
         Choice::Second,
@@ -284,6 +238,8 @@ fn finish<X: System + AllocGlobal, D: Start, E: Write>(
         explains,
         devices,
         errors,
-    )?;
-    Some(report(end, errors))
+    ) {
+        None => 1,
+        Some(()) => report(end, errors),
+    }
 }

@@ -7,6 +7,7 @@ use std::cell::RefCell;
 use std::fs::{Metadata, OpenFile, OpenOptions};
 use std::io::{self, Read, Seek, SeekFrom, Write};
 use std::rt::Files;
+use std::time::Duration;
 
 /// A disk, and the memory that its program uses.
 #[derive(Drop)]
@@ -193,6 +194,14 @@ impl<'a> System for Disk<'a> {
 
     fn screen(&self) -> Option<Vec<u8>> {
         None
+    }
+
+    fn watched(&self) -> Option<Vec<u8>> {
+        None
+    }
+
+    fn time(&self) -> Duration {
+        Duration::ZERO
     }
 }
 

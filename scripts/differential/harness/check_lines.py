@@ -31,6 +31,8 @@ no_separator = finding("error: a `;` is missing before `run`", "wrong-use")
 no_expression = finding("error: the words of `test` are no expression", "wrong-use")
 not_assigned = finding("warning: `{}` is an environment variable, so it can not be assigned", "hidden-assignment")
 hidden = finding("warning: `{}` is an environment variable, which hides what is assigned", "hidden-assignment")
+not_assigned_then = finding("warning: a script sets `{}` in the environment, where it can not be assigned", "hidden-assignment")
+hidden_then = finding("warning: a script sets `{}` in the environment, which hides what is assigned", "hidden-assignment")
 not_typed = finding("error: the value does not have the type that .flags gives it", "value-type")
 returned = finding("warning: a carriage return stands in the script", "carriage-return")
 not_defined = finding("warning: `${{{}}}` names a variable that nothing defines", "undefined-name")
@@ -85,7 +87,7 @@ BY_BEGINNINGS = [f"called `{name}`" for name in ("setexpr.x", "setexpr.", "seten
 def on_board(found):
     """What the board's shell finds where the strict one finds this, if `-e` is the only word of `test` among it."""
     left = without(found, "operator `-e`", *BY_BEGINNINGS)
-    return [each.replace("so it can not be assigned", "which hides what is assigned") for each in left]
+    return [re.sub("(so|where) it can not be assigned", "which hides what is assigned", each) for each in left]
 
 
 def place(text, at):

@@ -267,7 +267,7 @@ class Calls:
         codes = KINDS if self.chance(25) else [self.numbers.choice(CODES) for _ in range(2) if self.chance(40)]
         left_out = [self.option(b"--ignore", code) for code in codes]
         formats = [self.option(b"--format", self.numbers.choice(FORMATS))] * self.chance(50)
-        return left_out + [[b"--strict"]] * self.chance(10) + formats
+        return left_out + [[b"--strict"]] * self.chance(10) + [[b"--all"]] * self.chance(15) + formats
 
     def own(self, tool, is_whole):
         """The options and the other arguments of a subcommand."""

@@ -100,7 +100,7 @@ class Boards:
             if self.chance(25):
                 found[b".flags"] = self.any(REFUSED)
         if self.chance(15):
-            found[b"bootdelay"] = self.any([b"-1", b"0", b"-2"])
+            found[b"bootdelay"] = self.any([b"-1", b"-01", b"0", b"-2"])
         return found
 
     def rules(self):

@@ -6,7 +6,7 @@ import re
 from differential.harness.boards import STRICT, text_of
 
 from differential.harness.check_lines import (
-    lacked_test, lines, mixes, no_script, not_assigned, not_called, not_defined, not_run, on_board, place, returned, row, with_stand_ins,
+    lacked_test, lines, mixes, no_script, not_assigned, not_assigned_then, not_called, not_defined, not_run, on_board, place, returned, row, with_stand_ins,
 )  # fmt: skip
 from differential.harness.rows import TOP, examples
 from differential.harness.rows import boards as rows_of_boards
@@ -21,6 +21,7 @@ FOUND = {
     **{name: [mixes("1:89")] for name in ("switch-of-two-slots", "switch-without-a-count")},
     "no-way-back": [not_run("1:38", "altbootcmd")],
     **{f"swupdate-{name}": [not_assigned("1:239", "ustate")] for name in ("failed", "installed", "tried-in-vain")},
+    "swupdate-without-a-state": [not_assigned_then("1:239", "ustate")],
     "kernel-arguments": [not_defined("1:70", "optargs"), not_defined("1:81", "more")],
     **{f"rauc-with-{name}-spent": [not_defined("31:18", "loadaddr"), not_defined("31:48", "loadaddr")] for name in ("one-slot", "both-slots")},
 }

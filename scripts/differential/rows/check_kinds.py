@@ -61,7 +61,7 @@ STARTS = [
     (b"run n$x 'n'${x} ''$x \"$x\"n $?n", [stale("1:1"), *several(not_run, "1:5 nnone 1:9 nnone 1:17 none 1:22 nonen"), any_target("1:28")]),
     (b'$run none; ${x} none; "$run" none; r$x none', []),
     (b"env $x none; env x run none; run", [no_subcommand("1:14"), runs_nothing("1:30")]),
-    (b"Run none; echo run none; setenv b run none; b='run none'", []),
+    (b"Run none; echo run none; setenv b run none; c='run none'", []),
     (b"# run none\nrun ok # none", []),
     (b"env exists none; env delete none; printenv none", []),
     # near to a name that a command sets or `test` substitutes, as in those below
@@ -144,7 +144,7 @@ CALLED = [
         several(not_called, "1:1 set 1:10 sete.x 1:20 e 1:23 .b 1:27 usb2.b 1:35 Echo 1:41 env.x"),
     ),
     (b'$laod x; "$mmc"; l${x}; laod$?; $l', several(not_defined, "1:1 laod 1:10 mmc 1:33 l")),
-    (b"echo laod; b=laod; setenv b 'laod'; # laod", []),
+    (b"echo laod; b=laod; setenv c 'laod'; # laod", []),
     (b"if then", [no_script("1:4", "Unexpected")]),
     (b"laod; 'x", [no_script("1:7", "Quote")]),
 ]

@@ -6,8 +6,8 @@ import re
 from differential.harness.boards import CONFIG, STRICT, arguments, board, calls, text_of
 
 from differential.harness.check_lines import (
-    NOTHING, any_target, cut_off, hidden, lacked, last, lines, no_script, no_operator_of_board, no_variable, not_assigned, not_called, not_defined, not_run, not_typed, of_if, of_loop, on_board, returned,
-    row, stale, with_stand_ins, without,
+    NOTHING, any_target, cut_off, hidden, hidden_then, lacked, last, lines, no_calculation, no_script, no_setting, no_operator_of_board, no_variable, not_assigned, not_assigned_then, not_called, not_defined, not_run, not_typed, of_if, of_loop, on_board, returned,
+    row, runs_nothing, stale, with_stand_ins, without,
 )  # fmt: skip
 from differential.harness.running import Case
 from differential.rows import check_kinds
@@ -124,6 +124,21 @@ FORESEEN = [
     (b"bootcmd=run n\n.flags=n:d\n", [], [not_run("bootcmd:1:5", "n")]),
     (b"bootcmd=setenv none 1\n", [b"none", b"bootcmd"], [no_variable("none")]),
 ]  # fmt: skip
+# The same for names that are assigned: any script that is checked may set their variables to a value
+WRITTEN = [
+    (b"bootcmd=n=1; run b\nb=setenv n 2\n", [], [not_assigned_then("bootcmd:1:1", "n")]),
+    (b"bootcmd=setenv n 1; for n in 1; do n=2; done\n", [], [not_assigned_then("bootcmd:1:17", "n"), not_assigned_then("bootcmd:1:28", "n")]),
+    (b"bootcmd=a=1; b=1; c=1; d=1; e=1; setenv a; setenv -f b; env set c; env set -f d; setenv -f e\n", [], []),
+    (b"bootcmd=a=1; b=1; setenv -f a 1; env set 'b' $none\nnone=1\n", [], [not_assigned_then("bootcmd:1:1", "a"), not_assigned_then("bootcmd:1:6", "b")]),
+    (b"bootcmd=a=1; b=1; c=1; env set -f a 1; setexpr b 1 + 1; setexpr.b c 1\n", [],
+     [not_assigned_then("bootcmd:1:1", "a"), not_assigned_then("bootcmd:1:6", "b"), not_assigned_then("bootcmd:1:11", "c")]),
+    (b"bootcmd=a=1; b=1; c=1; d=1; setenv ${x}a 1; test -n $b; env exists c; echo d d; setenv x a 1\nx=1\n", [], []),
+    (b"bootcmd=n=1\nb=setenv n 2\n", [], []),
+    (b"bootcmd=n=1\nb=setenv n 2\n", [b"bootcmd", b"b"], [not_assigned_then("bootcmd:1:1", "n")]),
+    (b"bootcmd=n=1; run b\nb=setenv n 2; if\n", [], [no_script("b:1:15", "Missing")]),
+    (b"bootcmd=n=1; setenv n 2\nn=1\n", [], [not_assigned("bootcmd:1:1", "n")]),
+    (b"bootcmd=setenv n=1 1; n=1\n", [], [no_setting("bootcmd:1:1")]),
+]  # fmt: skip
 # Variables as a text for import, in which `.flags` comes last, names, and all that is printed: types are checked after the scripts
 TYPED = [
     (b"n=x\n.flags=n:d\n", [], [not_typed("n")]),
@@ -143,7 +158,7 @@ TYPED = [
     (b"n=x\n.flags=n:zr\n", [], []),
     (b"n=x\na=run m\nbootcmd=run o\n.flags=n:d\n", [], [not_run("bootcmd:1:5", "o"), not_typed("n")]),
     (b"n=x\na=run m\nbootcmd=run o\n.flags=n:d\n", [b"a", b"none"], [no_variable("none"), not_run("a:1:5", "m"), not_typed("n")]),
-    (b"bootcmd=setenv n x; n=x\n.flags=n:d\n", [], []),
+    (b"bootcmd=setenv n x; n=x\n.flags=n:d\n", [], [not_assigned_then("bootcmd:1:13", "n")]),
     (b"n=n=2\nbootcmd=run n\n.flags=bootcmd:d\n", [], [not_assigned("n:1:1", "n"), not_typed("bootcmd")]),
 ]
 # Entries of a boot menu: an environment, names, and all that is printed
@@ -166,7 +181,7 @@ MENUS = [
 WRONG = {
     FILE_AND: (
         "-f script --shell x a / -f script a / -f a -f script a / a -f - / -f script '' / -f script --default absent / -f script --size x / "
-        "-f script --known absent"
+        "-f script --known absent / -f script --all / --all -f script --shell x"
     ),
     AND_ENV
     % b"-c <FILE>": "--env absent -c absent / --default=absent --size=x --env absent -c=absent / -f script --size 4000 --env absent -c absent a",
@@ -182,7 +197,7 @@ WRONG = {
     NO_FORMAT % b"": "--format=",
     NO_FORMAT % b"GCC": "--format GCC --strict",
     READ_TWICE: "-f - -f - / -f - -f script -f - / -f - --stubs - / -f script -f - --stubs=- / --stubs - -f - -f absent",
-    None: "--ignore / --strict --strict / --strict=1 / --shell / --shell=board --shell=board / -f / -f a -f / --format / --format=gcc --format=gcc / -e true / --write / --boots booti / --steps 1 / --stubs / --stubs=a --stubs=a / --board / --board=a --board=a / --known / --known=a --known=a / --env=a --env=a / -n a / -x",
+    None: "--ignore / --strict --strict / --strict=1 / --all --all / --all=1 / --shell / --shell=board --shell=board / -f / -f a -f / --format / --format=gcc --format=gcc / -e true / --write / --boots booti / --steps 1 / --stubs / --stubs=a --stubs=a / --board / --board=a --board=a / --known / --known=a --known=a / --env=a --env=a / -n a / -x",
 }
 # Files that aren't there, in the order in which they are used
 ORDER = [
@@ -219,7 +234,7 @@ def with_nothing(text, names, found):
 
 
 def followed():
-    for text, names, lines_of in FOLLOWED + GIVEN + FORESEEN + TYPED:
+    for text, names, lines_of in FOLLOWED + GIVEN + FORESEEN + WRITTEN + TYPED:
         found = with_nothing(text, names, lines_of)
         yield row("scripts that are followed", [b"--env", b"env", *names], {b"env": text}, lines(on_board(found)))
         yield row("scripts that are followed", [*STRICT, b"--env", b"env", *names], {b"env": text}, lines(found))
@@ -227,6 +242,57 @@ def followed():
         yield row("entries of a boot menu", [b"--env", b"env", *names], {b"env": text}, lines(found))
     many = b"".join(b"v%d=run v%d v%d\n" % (at, at + 1, at * 7 % 500) for at in range(500))
     yield row("a long way", [b"--env", b"env", b"v0"], {b"env": many}, lines([not_run("v499:1:5", "v500")]), seconds=1)
+
+
+# Environments of which all is looked at, words beside `--all`, what is found with stand-ins and in how many scripts; and if there are none,
+# where that is something else
+ALL = [
+    (
+        b"a=run n\nb=if run n; then true; fi\nc=for i in 1; do run n; done\nd=while run n; do true; done\ne=until run n; do true; done\n", b"",
+        [not_run("a:1:5", "n"), not_run("b:1:8", "n"), not_run("c:1:20", "n"), not_run("d:1:11", "n"), not_run("e:1:11", "n")], 5,
+    ),
+    (b"z=mmc 0; run n\na=usb start;run m\nload=1 2\n", b"", [not_run("a:1:15", "m"), not_run("z:1:12", "n")], 2, [NOTHING], 0),
+    (b"a=load\\\n usb; run n\nb=load|run n\nc=load&&run n\nd=load;run n\n", b"",
+     [not_run("a:2:11", "n"), no_script("b:1:5", "Operator"), not_run("c:1:11", "n"), not_run("d:1:10", "n")], 4, [NOTHING], 0),
+    (b"a=\\\n\t \\\n run n\n", b"", [not_run("a:3:6", "n")], 1),
+    # what begins with another word, or has no more
+    (b"a=run\nb=mmc \t\nc=mmc\\\n\nd=laod mmc; run n\ne=Run n\nf=true# n\ng='run' n\nh=$run n\ni=;run n\nj=iffy run n\nk=then run n\n", b"", [NOTHING], 0),
+    (b"a=run; run n\nb=true;\n", b"", [runs_nothing("a:1:1"), not_run("a:1:10", "n")], 2),
+    # names of commands as they are written
+    (b"a=us start; run n\nb=mmc.b 1; run n\nc=setenv.b x; run n\nd=setexpr.b; run n\n", b"", [no_calculation("d:1:1"), not_run("d:1:16", "n")], 1),
+    # what isn't a script, but looks like one
+    (b"a=echo 'run n\nb=if true; then run n\n", b"", [no_script("a:1:6", "Quote"), no_script("b:1:20", "Missing")], 2),
+    # ordinary values, and the lists of U-Boot's `dfu`
+    (b"args=console=ttyS0,115200 earlycon\nfiles=boot.scr.uimg boot.scr\ndtb=a b.dtb ${n}\nmtdparts=mtdparts=nand:1m(a);run n\n.flags=x:sr\n", b"", [NOTHING], 0),
+    (b"targets=usb mmc0 pxe\nsize=load 10\n", b"", [], 2, [NOTHING], 0),
+    (b"dfu_alt_info=load part 0 1;root part 0 2\ndfu_alt_info_mmc=run part 0 1\nxdfu_alt_info=run n\ndfu_alt_inf=run n\n", b"",
+     [not_run("dfu_alt_inf:1:5", "n"), not_run("xdfu_alt_info:1:5", "n")], 2),
+    # entries of a boot menu, and what comes first
+    (b"bootmenu_0=run n\nbootmenu_1=run=run n\nbootmenu_2=\nbootmenu_x=run n\n", b"", [not_run("bootmenu_1:1:9", "n"), not_run("bootmenu_x:1:5", "n")], 2),
+    (
+        b"a=run n1 z\npreboot=mmc\nbootcmd=run n2\nbootmenu_1=x=run n3\nz=run\n", b"z none z",
+        [no_variable("none"), runs_nothing("z:1:1"), not_run("bootcmd:1:5", "n2"), not_run("bootmenu_1:1:7", "n3"), not_run("a:1:5", "n1")], 5,
+    ),
+    # what they define, and whose statuses they ask for
+    (b"a=echo $n; run m\nb=setenv n 1; setenv m true\n", b"", [], 2),
+    (b"a=if true; then true; fi\nb=run a && true\n", b"", [of_if("a:1:4")], 2),
+]  # fmt: skip
+
+
+def all_looked_at():
+    """Each variable that looks like a script, by stand-ins and builtins, by builtins alone, by a board, and beside a file."""
+    for text, words, *found in ALL:
+        given = [b"--env", b"env", b"--all", *words.split()]
+        yield row("all", with_stand_ins(given), {b"env": text, b"stand-ins": STAND_INS}, lines(found[0]), scripts=found[1])
+        yield row("all, by builtins", given, {b"env": text}, lines(found[-2]), scripts=found[-1])
+    files = {b"env": b"a=mmc 0; run n\nb=go 1; run n\nc=echo 1; run n\n", b"board": b"go 1 -> 0\n-echo\n"}
+    yield row("all, by a board", [b"--env", b"env", b"--all", b"--board", b"board"], files, lines([not_run("b:1:11", "n")]), scripts=1)
+    files = {b"env": b"a=run n\nb=run m\nbootcmd=usb\n", b"s": b"run b; run lost\n"}
+    found = lines(["s:" + not_run("1:12", "lost"), not_run("a:1:5", "n"), not_run("b:1:5", "m")])
+    yield row("all and a file", [b"--env", b"env", b"--all", b"-f", b"s"], files, found, scripts=4)
+    many = b"".join(b"v%03d=run n\n" % at for at in range(500))
+    found = lines([not_run(f"v{at:03}:1:5", "n") for at in range(500)])
+    yield row("all of many", [b"--env", b"env", b"--all"], {b"env": many}, found, scripts=500, seconds=1)
 
 
 # Files of names that the board's own code sets, and the first line that is none
@@ -453,6 +519,9 @@ def over_environment():
     yield row("a file and known names", [b"--env=env", b"-fs", b"--known", b"names"], files, lines(["s:" + not_defined("1:12", "c")]), scripts=1)
     found = [*(f"s:{each}" for each in (not_defined("1:9", "b"), not_defined("1:12", "c"))), not_called("a:1:1", "1")]
     yield row("a file and a board", [b"--env=env", b"-fs", b"--board", b"board"], files, lines(found), scripts=2)
+    setting = {b"env": b"a=1\n", b"one": b"b=1; c=1", b"two": b"setenv b 1", b"board": b"mmc -> setenv c 1\n"}
+    found = lines(["one:" + hidden_then("1:1", "b"), "one:" + hidden_then("1:6", "c")])
+    yield row("set by a file and a board", [b"--env=env", b"-fone", b"-ftwo", b"--board", b"board"], setting, found, scripts=2)
     yield row("a file of standard input", [b"--env", b"env", b"-f", b"-"], files, lines(["-:" + not_run("1:5", "n")]), given=b"run n", scripts=1)
     yield row(
         "an environment of standard input",
@@ -527,4 +596,4 @@ def words():
 
 
 def chunks():
-    return [*check_kinds.chunks(), followed, known, limits, counting, formats, several, over_environment, opened, words]
+    return [*check_kinds.chunks(), followed, all_looked_at, known, limits, counting, formats, several, over_environment, opened, words]

@@ -1,10 +1,17 @@
-use Rattle.std.proofs.Common.{false}
-use Rattle.fw_boots.specs.Boots.{power_of}
+use Rattle.std.proofs.Common.{◌∙◌, ap, subst, false}
+use Rattle.std.specs.Prelude.{IfOk}
+use Rattle.envimg_core.specs.Environment.{Environment}
+use Rattle.envvars_core.specs.Variables.{Contents}
+use Rattle.env_session.specs.Session.{Held}
+use Rattle.boot_search.specs.SurveyText.{IsSurveyText, told_of}
+use Rattle.fw_boots.specs.Boots.{power_of, tells_from}
 use Rattle.fw_boots.proofs.PowerLemmas.{told_as}
 use Rattle.fw_boots.proofs.boot.boot_text.Goals as goal
 
 pub returns : goal.returns
-returns c =
+returns g c =
+    let p = power_of c.args.boot.now in
     let of = c.in_ok-survey.ensures in
-    told_as false (power_of c.args.boot.now) c.args.limits.ways c.in_ok-survey.survey c.survey_text.result (of.report, of.boots, of.may_boot, of.few)
-    c.survey_text.ensures.text c.survey_text.ensures.status
+    let first = ap (λ (v : Contents). v.env) c.vars.ensures ∙ ap (λ (h : Held). h.now.env) c.in_ok-first.ensures in
+    let text = subst (λ e. IfOk c.survey_text.result (λ t. IsSurveyText (tells_from e p) (told_of c.in_ok-survey.survey) t.text.items)) first c.survey_text.ensures.text in
+    told_as false p c.args.limits.ways c.in_ok-survey.survey c.survey_text.result (of.report, of.boots, of.may_boot, of.few) text c.survey_text.ensures.status

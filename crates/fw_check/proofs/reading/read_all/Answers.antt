@@ -1,13 +1,10 @@
 use Rattle.std.proofs.Common.{ap, subst, ◌∙◌}
-use Rattle.std.specs.List.{flat_map}
-use Rattle.fw_check.specs.Called.{in_answers}
 use Rattle.fw_check.specs.Checking.{AreVisited}
 use Rattle.fw_check.specs.FileChecks.{script_texts, scripts_view}
-use Rattle.fw_check.specs.Following.{Followed, follow_fronts}
-use Rattle.fw_check.specs.Looking.{hardware_in, rules_in}
+use Rattle.fw_check.specs.Following.{Followed}
+use Rattle.fw_check.specs.Looking.{rules_in}
 use Rattle.fw_check.specs.NameSets.{set_of}
-use Rattle.fw_check.specs.Naming.{run_in}
-use Rattle.fw_check.proofs.VisitLemmas.{foreseen-known, given-known, texts-env, texts-followed}
+use Rattle.fw_check.proofs.VisitLemmas.{foreseen-known, given-known, texts-env, texts-followed, written-known}
 use Rattle.fw_check.proofs.reading.read_all.Goals as goal
 
 pub follow_all-requires : goal.follow_all-requires
@@ -34,3 +31,9 @@ returns-clause-foreseen c =
     foreseen-known (rules_in c.args.lookups.now) c.args.vars.now.env (script_texts (scripts_view c.args.scripts.now)) c.follow_all.new.names.names (set_of c.new-gathered.result.foreseen)
     (set_of c.follow_answers.new.gathered.foreseen) (set_of c.follow_files.new.gathered.foreseen) (set_of c.follow_all.new.gathered.foreseen) c.new-gathered.ensures.foreseen
     c.in_ok-follow_answers.ensures.foreseen c.in_ok-follow_files.ensures.foreseen c.in_ok-follow_all.ensures.foreseen
+
+pub returns-clause-written : goal.returns-clause-written
+returns-clause-written c =
+    written-known (rules_in c.args.lookups.now) c.args.vars.now.env (script_texts (scripts_view c.args.scripts.now)) c.follow_all.new.names.names (set_of c.new-gathered.result.written)
+    (set_of c.follow_answers.new.gathered.written) (set_of c.follow_files.new.gathered.written) (set_of c.follow_all.new.gathered.written) c.new-gathered.ensures.written
+    c.in_ok-follow_answers.ensures.written c.in_ok-follow_files.ensures.written c.in_ok-follow_all.ensures.written

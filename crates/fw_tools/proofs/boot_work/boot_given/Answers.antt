@@ -1,7 +1,6 @@
-use Rattle.std.proofs.Common.{List, inr, subst, map, ◌∙◌}
+use Rattle.std.proofs.Common.{List, subst, map}
 use Rattle.hush_syntax.specs.Scripts.{tree_of}
 use Rattle.hush_syntax.specs.declared.script.Script.{Script}
-use Rattle.fw_files.specs.Said.{Says}
 use Rattle.hush_commands.specs.Hardware.{hardware}
 use Rattle.fw_arguments.specs.PowerOns.{power_ons_view}
 use Rattle.fw_tools.specs.PowerOns.{AreScriptsOf, PrintsBoots}
@@ -13,16 +12,10 @@ returns g c =
     let prints : List Script → Type 0 = λ scripts.
     PrintsBoots (power_ons_view c.args.asked.now) given (map tree_of scripts) c.args.session.now
     (g.W.Write.contents c.args.output.now) (g.W.Write.contents c.print_boots-end.new.output) c.print_boots-end.result in
-    let printed = subst prints c.deref.ensures.value c.print_boots-end.ensures in
-    inr (
+    let printed = subst prints c.deref.ensures.value c.print_boots-end.ensures in (
       given,
       map tree_of c.in_ok-after.after.items,
-      c.in_ok-hardware.ensures.0,
-      subst (λ b. AreScriptsOf (g.X.System.holds c.args.rt.now) b (power_ons_view c.args.asked.now).after (map tree_of c.in_ok-after.after.items)) c.bodies_of.ensures c.in_ok-after.ensures.0,
-      (
-        c.print_boots-end.result,
-        printed,
-        subst (λ e. Says c.print_boots-end.result.fault e (g.E.Write.contents c.report.new.errors)) (c.in_ok-after.ensures.1 ∙ c.in_ok-hardware.ensures.1) c.report.ensures.said,
-        c.report.ensures.status,
-      ),
+      c.in_ok-hardware.ensures.read,
+      subst (λ b. AreScriptsOf (g.X.System.holds c.args.rt.now) b (power_ons_view c.args.asked.now).after (map tree_of c.in_ok-after.after.items)) c.bodies_of.ensures c.in_ok-after.ensures,
+      (c.print_boots-end.result, printed, c.report.ensures.said, c.report.ensures.status),
     )

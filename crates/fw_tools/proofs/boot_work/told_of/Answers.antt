@@ -10,7 +10,7 @@ use Rattle.fw_tools.proofs.PowerOnLemmas.{power_is, tells}
 use Rattle.fw_tools.proofs.boot_work.told_of.Goals as goal
 
 pub returns : goal.returns
-returns c =
+returns g c =
     let asked = power_ons_view c.args.asked.now in
     let given = hardware c.args.given.now.board c.args.given.now.stand_ins in
     let session = c.args.session.now in
@@ -22,5 +22,5 @@ returns c =
     ∙ ap (λ shape. image_bytes shape false session.defaults.env) c.in-Some.ensures in
     let cuts = c.cuts_for.ensures ∙ ap (λ (second : Option (List ℕ)). cutting_for asked.cuts second c.deref.result.now) c.copy.ensures
     ∙ ap (cutting_for asked.cuts session.now.second) bad in
-    tells asked given after session tree _ c.text_or_graph.result c.in_ok-script.ensures
-    (power_is (rules_in asked.dry.shell given asked.dry.limits) _ _ asked.counts tree after _ _ _ _ _ _ cuts c.in-Some.ensures c.defaults-2.ensures first) c.text_or_graph.ensures
+    tells asked given after session tree _ c.watched_text.result c.in_ok-script.ensures
+    (power_is (rules_in asked.dry.shell given asked.dry.limits) _ _ asked.counts tree after _ _ _ _ _ _ cuts c.in-Some.ensures c.defaults-2.ensures first) c.watched_text.ensures

@@ -1,6 +1,6 @@
-use Rattle.fw_files.proofs.SaidLemmas.{found_after, waited_from}
+use Rattle.fw_tools.proofs.SubcommandLemmas.{configured}
 use Rattle.fw_tools.proofs.subcommands.copies_in_devices.Goals as goal
 
-pub returns-in-Some-clause-found : goal.returns-in-Some-clause-found
-returns-in-Some-clause-found g c =
-    found_after _ c.copies_under.result _ _ _ (waited_from _ _ _ c.in_ok-config.ensures.1 c.in-Some.ensures) c.copies_under.ensures.found
+pub returns-clause-found : goal.returns-clause-found
+returns-clause-found g c =
+    configured (g.X.System.holds c.args.rt.now) c.args.call.now.config.now c.args.call.now.order c.in_ok-config.config c.in_ok-source.source c.in_ok-config.ensures.read c.in_ok-source.ensures.0

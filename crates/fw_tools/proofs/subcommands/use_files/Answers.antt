@@ -1,24 +1,39 @@
-use Rattle.std.proofs.Common.{ap, inl, refl, subst}
-use Rattle.std.specs.Prelude.{unwrap_or}
+use Rattle.std.proofs.Common.{◌≡◌, Err, ap, refl, rules, subst, ◌∙◌}
+use Rattle.std.specs.Prelude.{option_map}
+use Rattle.device_files.specs.Record.{calls_in}
 use Rattle.fw_arguments.specs.Calls.{call_view, spares}
+use Rattle.fw_files.specs.WrittenBack.{Devices}
 use Rattle.fw_files.specs.Misread.{Spares}
 use Rattle.fw_files.specs.Opening.{IsOpening}
-use Rattle.fw_files.specs.Source.{second_bytes}
-use Rattle.fw_files.proofs.SaidLemmas.{said_then, waited_said}
-use Rattle.fw_tools.specs.Subcommands.{stopped_status}
-use Rattle.fw_tools.proofs.SubcommandLemmas.{opened_session}
+use Rattle.fw_files.specs.Source.{second_bytes, warned}
+use Rattle.fw_engines.specs.Streams.{AppendsFront}
+use Rattle.fw_tools.specs.declared.halt.Halt.TheVariants as halt
+use Rattle.fw_tools.proofs.SubcommandLemmas.{halted, halted_as, worked}
 use Rattle.fw_tools.proofs.subcommands.use_files.Goals as goal
+
+pub returns-in_err-source : goal.returns-in_err-source
+returns-in_err-source g c =
+    let h = halt.Files c.in_err-source.field-0.0 in
+    let calls = option_map (λ d. calls_in d.calls) c.args.devices.now in
+    let devices : Devices = record { start = g.D.Start.contents; before = calls; after = calls } in
+    let same : c.from_residual.result ≡ Err h = search rules in
+    halted_as c.from_residual.result h _ _ same (halted (g.X.System.holds c.args.rt.now) (call_view c.args.call.now) devices _ _ h tt refl refl refl c.copies_for.ensures.waited)
 
 pub returns-in_err-session : goal.returns-in_err-session
 returns-in_err-session g c =
-    inl (refl, (refl, said_then _ _ _ (waited_said _ _ c.in_ok-source.ensures.found.1) c.in_err-session.ensures), ap (λ o. unwrap_or o (stopped_status (call_view c.args.call.now).job)) c.from_residual-in_err-session.ensures, refl)
+    let h = halt.Files c.in_err-session.field-0.0 in
+    let calls = option_map (λ d. calls_in d.calls) c.args.devices.now in
+    let devices : Devices = record { start = g.D.Start.contents; before = calls; after = calls } in
+    let same : c.from_residual-in_err-session.result ≡ Err h = search rules in
+    halted_as c.from_residual-in_err-session.result h _ _ same (halted (g.X.System.holds c.args.rt.now) (call_view c.args.call.now) devices _ _ h tt refl refl refl c.copies_for.ensures.waited)
 
 pub returns : goal.returns
 returns g c =
+    let holds = g.X.System.holds c.args.rt.now in
     let call = call_view c.args.call.now in
     let source = c.in_ok-source.source in
     let session = c.in_ok-session.session in
     let opened = c.in_ok-session.ensures in
     let spared = subst (λ s. Spares session.now.current s source.geometry source.first.bytes.items (second_bytes source.second)) c.spares.ensures opened.2.spared in
-    let opening : IsOpening (g.X.System.holds c.args.rt.now) call.config call.image call.order call.copy (spares call) opened.0 source session = (c.in_ok-source.ensures.found.0, opened.2.opens, spared) in
-    opened_session (g.X.System.holds c.args.rt.now) call opened.0 _ _ _ source session _ _ _ c.in_ok-source.ensures.found.1 opened.1 opening opened.2.accepted c.work.ensures
+    let opening : IsOpening holds call.config call.image call.order call.copy (spares call) opened.0 source session = (c.in_ok-source.ensures.found, opened.2.opens, spared) in
+    worked holds call _ _ _ opened.0 source session _ c.work.result (record { waited = _; waits = c.copies_for.ensures.waited; taken = opened.1; opening = opening; accepted = opened.2.accepted; warns = subst (AppendsFront (g.E.Write.contents c.copies_for.new.errors) (g.E.Write.contents c.say.new.errors)) (c.warning_of.ensures ∙ ap (warned call.defaults.whole) c.current.ensures) c.say.ensures }) c.work.ensures

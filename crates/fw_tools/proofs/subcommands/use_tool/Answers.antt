@@ -1,11 +1,7 @@
-use Rattle.std.proofs.Common.{true, false, ap, inl, refl, sym}
-use Rattle.std.specs.Prelude.{unwrap_or}
+use Rattle.std.proofs.Common.{true, false, refl, sym}
 use Rattle.fw_arguments.specs.Calls.{task_view}
 use Rattle.fw_tools.proofs.SubcommandLemmas.{kept_if, used_tool}
 use Rattle.fw_tools.proofs.subcommands.use_tool.Goals as goal
-
-pub returns-in_err-end : goal.returns-in_err-end
-returns-in_err-end g c = inl ((c.in_err-end.ensures, ap (λ o. unwrap_or o 1) c.from_residual.ensures), refl)
 
 pub returns-then-is_left : goal.returns-then-is_left
 returns-then-is_left g c =

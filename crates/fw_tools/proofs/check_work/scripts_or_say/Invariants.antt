@@ -1,9 +1,0 @@
-use Rattle.std.proofs.Common.{◌≡◌, map, take}
-use Rattle.fw_check.specs.FileChecks.{scripts_view}
-use Rattle.fw_tools.specs.CheckRuns.{AreScriptsAt}
-use Rattle.fw_tools.proofs.check_work.scripts_or_say.Given as goal
-
-abbrev pub invariant-loop-path : goal.invariant-loop-path
-invariant-loop-path g l =
-    AreScriptsAt (g.X.System.holds l.rt) (map (λ p. p.now) (take l.path-index l.paths)) (scripts_view l.scripts.items)
-    × (g.E.Write.contents l.errors ≡ g.E.Write.contents l.initial.errors)

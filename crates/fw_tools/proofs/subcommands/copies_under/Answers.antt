@@ -1,6 +1,0 @@
-use Rattle.fw_tools.proofs.SubcommandLemmas.{configured}
-use Rattle.fw_tools.proofs.subcommands.copies_under.Goals as goal
-
-pub returns-clause-found : goal.returns-clause-found
-returns-clause-found g c =
-    (configured (g.X.System.holds c.args.rt.now) c.args.call.now.config.now c.args.call.now.order c.args.config c.in_ok-source.source c.requires c.in_ok-source.ensures.0, c.in_ok-source.ensures.2)
