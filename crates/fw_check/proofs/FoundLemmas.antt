@@ -8,19 +8,19 @@ use Rattle.text_parts.proofs.CutLemmas.{list_any-answer, position_or_len-found}
 use Rattle.finding_kinds.specs.declared.kinds.FindingKind.TheVariants as kind
 use Rattle.fw_check.specs.Findings.{Finding, Report, found_at, is_return, return_findings, return_sentence, with_finding, with_findings}
 use Rattle.fw_check.specs.Found.{Found, found_more}
-use Rattle.fw_check.specs.Lines.{Subject}
+use Rattle.fw_check.specs.Origins.{Origin}
 
-pub report-none : (subject : Subject) (text : List ℕ) (r : Report) → with_findings subject text r [] ≡ r
-report-none subject text r = refl
+pub report-none : (origin : Origin) (text : List ℕ) (r : Report) → with_findings origin text r [] ≡ r
+report-none origin text r = refl
 
-pub report-append : (subject : Subject) (text : List ℕ) (r : Report) (xs ys : List Finding) → with_findings subject text (with_findings subject text r xs) ys ≡ with_findings subject text r (xs ++ ys)
-report-append subject text r xs ys = sym (fold-append (with_finding subject text) r xs ys)
+pub report-append : (origin : Origin) (text : List ℕ) (r : Report) (xs ys : List Finding) → with_findings origin text (with_findings origin text r xs) ys ≡ with_findings origin text r (xs ++ ys)
+report-append origin text r xs ys = sym (fold-append (with_finding origin text) r xs ys)
 
 pub found-none : (f : Found) → found_more f [] ≡ f
-found-none f = ap (λ (r : Report). let g : Found = record f { report = r } in g) (report-none f.subject f.text f.report)
+found-none f = ap (λ (r : Report). let g : Found = record f { report = r } in g) (report-none f.origin f.text f.report)
 
 pub found-append : (f : Found) (xs ys : List Finding) → found_more (found_more f xs) ys ≡ found_more f (xs ++ ys)
-found-append f xs ys = ap (λ (r : Report). let g : Found = record f { report = r } in g) (report-append f.subject f.text f.report xs ys)
+found-append f xs ys = ap (λ (r : Report). let g : Found = record f { report = r } in g) (report-append f.origin f.text f.report xs ys)
 
 -- ---- the first carriage return
 

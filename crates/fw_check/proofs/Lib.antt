@@ -13,3 +13,4 @@ mod VisitLemmas
 pub mod Rows
 mod LineLemmas
 mod AskLemmas
+mod EntryPlaceLemmas

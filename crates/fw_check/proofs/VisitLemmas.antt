@@ -12,13 +12,14 @@ use Rattle.hush_syntax.specs.declared.syntax_fault.SyntaxFault.{SyntaxFault}
 use Rattle.hush_commands.specs.Hardware.{Hardware}
 use Rattle.hush_run.specs.Meaning.{bodies_of}
 use Rattle.finding_kinds.specs.declared.kinds.FindingKind.TheVariants as kind
-use Rattle.fw_check.specs.Checking.{AreFollowed, AreVisited, Faulty, Reports, Script, Visit, after_visit, follow_texts, in_all, in_read, known_after, reading_findings, script_in}
+use Rattle.fw_check.specs.Checking.{AreFollowed, AreVisited, Faulty, Reports, Script, Visit, after_visit, follow_texts, in_all, in_read, known_after, origin_in, reading_findings, script_in}
+use Rattle.fw_check.specs.EntryPlaces.{EnvironmentText}
 use Rattle.fw_check.specs.Called.{Given, in_answers}
 use Rattle.fw_check.specs.Findings.{Report, fault_sentence, found_at, return_findings, with_findings, with_script}
 use Rattle.fw_check.specs.Knowing.{Known}
 use Rattle.fw_check.specs.Following.{Followed, begin_all, begin_from, follow_fronts, is_among}
 use Rattle.fw_check.specs.Found.{Found, found_more}
-use Rattle.fw_check.specs.Lines.{Subject, Variable}
+use Rattle.fw_check.specs.Origins.{Origin}
 use Rattle.fw_check.specs.Literals.{Front}
 use Rattle.fw_check.specs.NameSets.{no_names, with_all}
 use Rattle.fw_check.specs.Naming.{foreseen_in, given_in, run_in, written_in}
@@ -40,22 +41,22 @@ module _ (known : Option Known) (given : Given) (asked : Bool) where
       (Faulty fault, (h.0, ap (read_in (bodies_of given.shell)) (sym same) ∙ unread h.0, subst (λ t. IsFaultOf t fault) same (first h.0)), h.1)
   read-fault (Err e) source text fault old new same unread first h = tt
 
-  pub script-checked : (subject : Subject) (text : List ℕ) (report counted after : Report) (first second third : Found) → counted ≡ with_script report → first ≡ record { subject = subject; text = text; report = counted } →
-      second ≡ found_more first (return_findings first.text) → Reads known given asked text second third → after ≡ third.report → GoesOn known given subject asked text report after
-  script-checked subject text report counted after first second third one begun returned h done =
+  pub script-checked : (origin : Origin) (text : List ℕ) (report counted after : Report) (first second third : Found) → counted ≡ with_script report → first ≡ record { origin = origin; text = text; report = counted } →
+      second ≡ found_more first (return_findings first.text) → Reads known given asked text second third → after ≡ third.report → GoesOn known given origin asked text report after
+  script-checked origin text report counted after first second third one begun returned h done =
       let ys = reading_findings known given text h.0 in
       let two = h.2 ∙ ap (λ (f : Found). found_more f ys) returned ∙ found-append first (return_findings first.text) ys
       ∙ ap (λ (f : Found). found_more f (return_findings f.text ++ ys)) begun in
-      let ends = λ (r : Report). with_findings subject text r (return_findings text ++ ys) in
+      let ends = λ (r : Report). with_findings origin text r (return_findings text ++ ys) in
       (h.0, h.1, done ∙ ap (λ (f : Found). f.report) two ∙ ap ends one)
 
 -- a visit, and then the others
-module _ (known : Option Known) (given : Given) (asked : List ℕ → Bool) where
-  pub report-first : (env : Environment) (name : List ℕ) (names : List (List ℕ)) (report after final : Report) → GoesOn known given (Variable name) (asked name) (script_in env name) report after →
-      Reports env known given asked names after final → Reports env known given asked (name ∷ names) report final
+module _ (file : Option EnvironmentText) (known : Option Known) (given : Given) (asked : List ℕ → Bool) where
+  pub report-first : (env : Environment) (name : List ℕ) (names : List (List ℕ)) (report after final : Report) → GoesOn known given (origin_in report file name) (asked name) (script_in env name) report after →
+      Reports env file known given asked names after final → Reports env file known given asked (name ∷ names) report final
   report-first env name names report after final h rest =
       let v : Visit = record { name = name; reading = h.0 } in
-      (v ∷ rest.0, ap (λ (ns : List (List ℕ)). name ∷ ns) rest.1, (h.1, rest.2), ap (λ (r : Report). fold (after_visit env known given) r rest.0) (sym h.2) ∙ rest.3)
+      (v ∷ rest.0, ap (λ (ns : List (List ℕ)). name ∷ ns) rest.1, (h.1, rest.2), ap (λ (r : Report). fold (after_visit env file known given) r rest.0) (sym h.2) ∙ rest.3)
 
 -- ---- the names that are visited
 

@@ -27,9 +27,11 @@ use Rattle.fw_check.specs.Statements.{AreItemsOf}
 use Rattle.fw_check.specs.Following.{Followed, follow_fronts, is_among, is_set}
 use Rattle.fw_check.specs.Literals.{Front}
 use Rattle.fw_check.specs.Naming.{asked_in, foreseen_in, given_in, run_in, written_in}
-use Rattle.fw_check.specs.Findings.{Finding, fault_sentence, found_at, return_findings, item_findings, Report, no_lines, report_end, with_alone, with_findings, with_script}
+use Rattle.fw_check.specs.EntryPlaces.{EnvironmentText}
+use Rattle.fw_check.specs.Findings.{Finding, fault_sentence, found_at, return_findings, item_findings, Report, no_lines, report_end, with_alone, with_findings, with_placed, with_script}
 use Rattle.fw_check.specs.Knowing.{Known}
 use Rattle.fw_check.specs.Lines.{Variable, Whole}
+use Rattle.fw_check.specs.Origins.{Origin, origin_of, subject_of, value_place}
 use Rattle.fw_check.specs.Summaries.{summary}
 
 -- ---- one script
@@ -145,15 +147,19 @@ pub record Visit : Type 0 where
 abbrev pub IsVisit : Bodies → Environment → (asked : List ℕ → Bool) → Visit → Type 0
 IsVisit bodies env asked v = IsReading bodies (asked v.name) (script_in env v.name) v.reading
 
-abbrev pub after_visit : Environment → Option Known → Given → Report → Visit → Report
-after_visit env known given report v =
-    with_findings (Variable v.name) (script_in env v.name) (with_script report) (findings known given (script_in env v.name) v.reading)
+-- where a variable's script is told, by a report that it is added to
+abbrev pub origin_in : Report → Option EnvironmentText → (name : List ℕ) → Origin
+origin_in report file name = origin_of report.choice.format file name
+
+abbrev pub after_visit : Environment → Option EnvironmentText → Option Known → Given → Report → Visit → Report
+after_visit env file known given report v =
+    with_findings (origin_in report file v.name) (script_in env v.name) (with_script report) (findings known given (script_in env v.name) v.reading)
 
 -- with what is found in the scripts of these names, `report` becomes `final`
-abbrev pub Reports : Environment → Option Known → Given → (asked : List ℕ → Bool) → List (List ℕ) → Report → Report → Type 0
-Reports env known given asked names report final =
+abbrev pub Reports : Environment → Option EnvironmentText → Option Known → Given → (asked : List ℕ → Bool) → List (List ℕ) → Report → Report → Type 0
+Reports env file known given asked names report final =
     (visits : List Visit) × (map (λ v. v.name) visits ≡ names) × AllByRecursion (IsVisit (bodies_of given.shell) env asked) visits
-    × (fold (after_visit env known given) report visits ≡ final)
+    × (fold (after_visit env file known given) report visits ≡ final)
 
 -- what is followed after what a check begins with: what the texts run that answer calls, and then these of files
 abbrev pub follow_texts : Given → (texts : List (List ℕ)) → Followed → Followed
@@ -169,15 +175,18 @@ with_none report =
 abbrev pub mistyped_sentence : List ℕ
 mistyped_sentence = codes "the value does not have the type that .flags gives it"
 
-abbrev pub with_typed : Environment → Report → Pair → Report
-with_typed env report p =
-    if has_type (attributes env p.0).kind p.1 then report else with_alone report (Variable p.0) kind.ValueType mistyped_sentence
+abbrev pub with_mistyped : Report → Origin → Report
+with_mistyped report origin = with_placed report (subject_of origin) (value_place origin) kind.ValueType mistyped_sentence
+
+abbrev pub with_typed : Environment → Option EnvironmentText → Report → Pair → Report
+with_typed env file report p =
+    if has_type (attributes env p.0).kind p.1 then report else with_mistyped report (origin_in report file p.0)
 
 -- a line for each variable whose value doesn't have the type that `.flags` gives it, in ascending order of
 -- the names' bytes
-abbrev pub with_types : Environment → Report → Report
-with_types env report = fold (with_typed env) report (entries env)
+abbrev pub with_types : Environment → Option EnvironmentText → Report → Report
+with_types env file report = fold (with_typed env file) report (entries env)
 
 -- these, unless the scripts of files are checked
-abbrev pub with_whole : (alone : Bool) → Environment → Report → Report
-with_whole alone env report = if alone then with_types env (with_none report) else report
+abbrev pub with_whole : (alone : Bool) → Environment → Option EnvironmentText → Report → Report
+with_whole alone env file report = if alone then with_types env file (with_none report) else report

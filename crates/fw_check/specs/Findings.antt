@@ -16,12 +16,13 @@ use Rattle.finding_kinds.specs.declared.kinds.FindingKind.{FindingKind}
 use Rattle.finding_kinds.specs.declared.kinds.FindingKind.TheVariants as kind
 use Rattle.finding_kinds.specs.declared.kinds.Severity.{Severity}
 use Rattle.finding_kinds.specs.declared.kinds.Severity.TheVariants as severity
-use Rattle.fw_engines.specs.TextPlaces.{place_of}
+use Rattle.fw_engines.specs.declared.text_places.Place.{Place}
 use Rattle.fw_check.specs.Called.{Given, called_by}
 use Rattle.fw_check.specs.Commands.{begin_in_parentheses, begin_with_comparison, command_fault, command_sentence, kind_of}
 use Rattle.fw_check.specs.Foreign.{foreign_of, foreign_sentence, plain_of}
 use Rattle.fw_check.specs.JsonLines.{line_in}
 use Rattle.fw_check.specs.Lines.{Line, Subject}
+use Rattle.fw_check.specs.Origins.{Origin, place_in, subject_of}
 use Rattle.fw_check.specs.Literals.{Front, front_of, is_called, is_mark, is_shown, literal_of, substituted}
 use Rattle.fw_check.specs.Knowing.{Known, field_of, is_defined, is_lacking, is_undefined, is_written}
 use Rattle.fw_check.specs.Misuse.{misuse_of, misuse_sentence}
@@ -45,9 +46,9 @@ pub record Finding : Type 0 where
 abbrev pub found_at : ℕ → FindingKind → List ℕ → Finding
 found_at count kind sentence = record { count = count; kind = kind; sentence = sentence }
 
--- its line in a script that is this subject
-abbrev pub line_at : Subject → (text : List ℕ) → Finding → Line
-line_at subject text f = record { subject = subject; place = Some (place_of text f.count); kind = f.kind; sentence = f.sentence }
+-- its line in a script with this text
+abbrev pub line_at : Origin → (text : List ℕ) → Finding → Line
+line_at origin text f = record { subject = subject_of origin; place = Some (place_in origin text f.count); kind = f.kind; sentence = f.sentence }
 
 -- ---- the report
 
@@ -106,20 +107,23 @@ with_line report l =
     if has_line report l.kind then record (noted report l.kind) { text = report.text ++ line_in report.choice.format l }
     else noted report l.kind
 
-abbrev pub with_finding : Subject → (text : List ℕ) → Report → Finding → Report
-with_finding subject text report f = with_line report (line_at subject text f)
+abbrev pub with_finding : Origin → (text : List ℕ) → Report → Finding → Report
+with_finding origin text report f = with_line report (line_at origin text f)
 
-abbrev pub with_findings : Subject → (text : List ℕ) → Report → List Finding → Report
-with_findings subject text report fs = fold (with_finding subject text) report fs
+abbrev pub with_findings : Origin → (text : List ℕ) → Report → List Finding → Report
+with_findings origin text report fs = fold (with_finding origin text) report fs
 
 -- a note after them that there is more
 abbrev pub report_end : Bool → List ℕ
 report_end true = codes "more is found, and not printed\n"
 report_end false = []
 
--- one more line, which has no place
+-- one more line, of what is in no script
+abbrev pub with_placed : Report → Subject → Option Place → FindingKind → (sentence : List ℕ) → Report
+with_placed report subject place k sentence = with_line report (record { subject = subject; place = place; kind = k; sentence = sentence })
+
 abbrev pub with_alone : Report → Subject → FindingKind → (sentence : List ℕ) → Report
-with_alone report subject k sentence = with_line report (record { subject = subject; place = None; kind = k; sentence = sentence })
+with_alone report subject k sentence = with_placed report subject None k sentence
 
 -- ---- texts that aren't scripts
 

@@ -1,5 +1,5 @@
 -- How the statements of a script are gathered: node by node, with the nodes still to come on a stack.
-use Rattle.std.specs.Prelude.{◌≡◌, ℕ, ◌+◌, ◌<◌, Bool, true, false, List, [], ◌∷◌, ◌++◌, map, Option, Some, None, option_to_list, is_none, IsSome}
+use Rattle.std.specs.Prelude.{◌≡◌, ℕ, ◌+◌, ◌<◌, Bool, true, false, List, [], ◌∷◌, ◌++◌, map, Option, Some, None, is_none, IsSome}
 use Rattle.std.specs.List.{flat_map}
 use Rattle.hush_words.specs.Parts.{Written}
 use Rattle.hush_syntax.specs.declared.nodes.NodeId.{NodeId}

@@ -9,7 +9,7 @@ use Rattle.finding_kinds.specs.declared.choice.Format.{Format}
 use Rattle.finding_kinds.specs.declared.choice.Format.TheVariants as format
 use Rattle.finding_kinds.specs.declared.kinds.FindingKind.{FindingKind}
 use Rattle.fw_engines.specs.declared.text_places.Place.{Place}
-use Rattle.fw_check.specs.Lines.{File, Line, Subject, Variable, Whole, line_text, plain_byte, severity_name}
+use Rattle.fw_check.specs.Lines.{Entry, File, Line, Subject, Variable, Whole, line_text, plain_byte, severity_name}
 
 -- a text as JSON has it, in quotes. JSON has characters: what isn't UTF-8 becomes U+FFFD
 abbrev pub text_json : List ℕ → List ℕ
@@ -26,6 +26,7 @@ column_member (Some place) = decimal place.column ++ codes ",\"file\":"
 abbrev pub file_member : Subject → List ℕ
 file_member (File path) = text_json path ++ codes ",\"line\":"
 file_member (Variable name) = codes "null,\"line\":"
+file_member (Entry path name) = text_json path ++ codes ",\"line\":"
 file_member Whole = codes "null,\"line\":"
 
 abbrev pub line_member : Option Place → List ℕ
@@ -41,6 +42,7 @@ severity_member k = severity_name (severity_of k) ++ codes "\",\"variable\":"
 abbrev pub variable_member : Subject → List ℕ
 variable_member (File path) = codes "null}"
 variable_member (Variable name) = text_json name ++ codes "}"
+variable_member (Entry path name) = text_json name ++ codes "}"
 variable_member Whole = codes "null}"
 
 abbrev pub first_members : Line → List ℕ

@@ -15,6 +15,8 @@ pub mod Foreign
 pub mod Misuse
 pub mod Lines
 pub mod JsonLines
+pub mod EntryPlaces
+pub mod Origins
 pub mod Findings
 pub mod Summaries
 pub mod Checking

@@ -11,10 +11,11 @@ use Rattle.fw_check.specs.declared.lines.Line as lines
 use Rattle.fw_check.specs.declared.lines.Subject as subjects
 use Rattle.fw_check.specs.declared.lines.Subject.TheVariants as code
 
--- what a line is about: the file of this path, the variable of this name, or the check as a whole
+-- what a line is about: the file of this path, the variable of this name, the entry of this path and name, or the check as a whole
 pub data Subject : Type 0 where
   File : List ℕ → Subject
   Variable : List ℕ → Subject
+  Entry : (path name : List ℕ) → Subject
   Whole : Subject
 
 -- a finding, as it is told: it may have no place
@@ -29,6 +30,7 @@ pub record Line : Type 0 where
 abbrev pub subject_text : Subject → List ℕ
 subject_text (File path) = path
 subject_text (Variable name) = name
+subject_text (Entry path name) = path
 subject_text Whole = codes "check"
 
 abbrev pub severity_name : Severity → List ℕ
@@ -63,6 +65,7 @@ plain_byte b = if nat_lt b 32 || b == 127 then 63 else b
 abbrev pub subject_view : subjects.Subject → Subject
 subject_view (code.File path) = File path.now
 subject_view (code.Variable name) = Variable name.now
+subject_view (code.Entry path name) = Entry path.now name.now
 subject_view code.Whole = Whole
 
 abbrev pub line_view : lines.Line → Line

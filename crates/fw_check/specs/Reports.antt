@@ -10,7 +10,7 @@ use Rattle.fw_check.specs.Called.{Given}
 use Rattle.fw_check.specs.Findings.{Report, item_findings, with_findings, with_script}
 use Rattle.fw_check.specs.Knowing.{Known}
 use Rattle.fw_check.specs.Found.{Found, found_more}
-use Rattle.fw_check.specs.Lines.{Subject}
+use Rattle.fw_check.specs.Origins.{Origin}
 
 module _ (known : Option Known) (given : Given) where
   -- what is found in the statements of a script was added
@@ -23,5 +23,5 @@ module _ (known : Option Known) (given : Given) where
   Reads asked text old new = (reading : Reading) × IsReading (bodies_of given.shell) asked text reading × (new ≡ found_more old (reading_findings known given text reading))
 
   -- a report was continued with what is found in a script, whose status is asked for or isn't
-  abbrev pub GoesOn : Subject → (asked : Bool) → (text : List ℕ) → Report → Report → Type 0
-  GoesOn subject asked text old new = (reading : Reading) × IsReading (bodies_of given.shell) asked text reading × (new ≡ with_findings subject text (with_script old) (findings known given text reading))
+  abbrev pub GoesOn : Origin → (asked : Bool) → (text : List ℕ) → Report → Report → Type 0
+  GoesOn origin asked text old new = (reading : Reading) × IsReading (bodies_of given.shell) asked text reading × (new ≡ with_findings origin text (with_script old) (findings known given text reading))

@@ -7,6 +7,7 @@ ghost use Rattle.fw_check.specs.Looking.{known_in, rules_in, rules_view};
 use crate::findings::Report;
 use crate::lines::Subject;
 use crate::lookups::Lookups;
+use crate::origins::Origin;
 use crate::rules::Rules;
 use crate::script_check::{check_script, lacks_memory, print_report};
 use finding_kinds::Choice;
@@ -65,7 +66,7 @@ pub(crate) fn check_scripts<'c>(
         so_far = check_script(
             lookups,
             so_far,
-            Subject::File(script.path),
+            Origin::Own(Subject::File(script.path)),
             false,
             &script.text,
         )?;

@@ -2,14 +2,19 @@
 ghost use Rattle.std.specs.Prelude.{◌≡◌, ◌++◌, [], ◌∷◌, OnOk};
 ghost use Rattle.finding_kinds.specs.declared.kinds.FindingKind.TheVariants as kind;
 ghost use Rattle.finding_kinds.specs.Choices.{choice_view};
-ghost use Rattle.fw_check.specs.Findings.{counted, fault_sentence, found_at, has_line, no_lines, noted, return_findings, with_alone, with_script};
+ghost use Rattle.fw_check.specs.Findings.{counted, fault_sentence, found_at, has_line, no_lines, noted, return_findings, with_alone, with_placed, with_script};
 ghost use Rattle.fw_check.specs.Found.{found_more};
 ghost use Rattle.fw_check.specs.JsonLines.{line_in};
 ghost use Rattle.fw_check.specs.Lines.{line_view, subject_view};
+ghost use Rattle.fw_check.specs.EntryPlaces.{entry_of, place_in_entry, text_view};
+ghost use Rattle.fw_check.specs.Origins.{origin_view, place_in, subject_of, value_place};
+ghost use Rattle.fw_check.specs.Checking.{with_mistyped};
 
+use crate::entry_places::{EntryPlaces, EnvironmentText};
 use crate::lines::{Line, Subject, push_line};
+use crate::origins::Origin;
 use finding_kinds::{Choice, FindingKind, Severity};
-use fw_engines::Pointer;
+use fw_engines::{Place, Pointer};
 use hush_syntax::{FaultKind, SyntaxFault};
 use memchr::memchr;
 use std::alloc::{AllocError, Global};
@@ -120,9 +125,41 @@ impl<'c> Report<'c> {
         if !self.has_line(kind) {
             return Ok(());
         }
+        self.push_placed(subject, None, kind, sentence)
+    }
+
+    /// Adds a finding in a whole value, at its place if that is in a file.
+    pub(crate) fn add_value(
+        &mut self,
+        origin: Origin<'_>,
+        kind: FindingKind,
+        sentence: &[u8],
+    ) -> Result<(), AllocError>
+        ensures { OnOk result (self.new ≡ with_placed self.old (subject_of (origin_view origin.entry))
+            (value_place (origin_view origin.entry)) kind sentence.now) }
+    {
+        if !self.has_line(kind) {
+            return Ok(());
+        }
+        self.push_placed(origin.subject(), origin.value_place(), kind, sentence)
+    }
+
+    /// Appends the line of a finding that was noted, and is in no script.
+    fn push_placed(
+        &mut self,
+        subject: Subject<'_>,
+        place: Option<Place>,
+        kind: FindingKind,
+        sentence: &[u8],
+    ) -> Result<(), AllocError>
+        ensures { OnOk result (self.new ≡ record self.old {
+          text = self.old.text ++ line_in self.old.choice.format
+              (record { subject = subject_view subject.entry; place = place; kind = kind; sentence = sentence.now });
+        }) }
+    {
         self.push(&Line {
             subject,
-            place: None,
+            place,
             kind,
             before: sentence,
             name: b"",
@@ -131,40 +168,39 @@ impl<'c> Report<'c> {
     }
 }
 
-/// A report that is continued with what is found in a script: what that is, and its text.
+/// A report that is continued with what is found in a script: where that is, and its text.
 #[derive(Drop)]
 pub(crate) struct Findings<'s, 'c> {
-    subject: Subject<'s>,
+    origin: Origin<'s>,
     source: &'s [u8],
     pointer: Pointer<'s>,
+    /// The places in its entry, once one is asked for.
+    within: Option<EntryPlaces<'s>>,
     report: Report<'c>,
 }
 
 impl<'s, 'c> Model for Findings<'s, 'c> {
-    ghost use Rattle.std.specs.Prelude.{◌≡◌};
+    ghost use Rattle.std.specs.Prelude.{◌≡◌, IfSome};
     ghost use Rattle.fw_check.specs.Found.{Found};
-    ghost use Rattle.fw_check.specs.Lines.{subject_view};
+    ghost use Rattle.fw_check.specs.Origins.{IsEntryOf, origin_view};
 
     ghost Value = { Found };
 
-    ghost view = { λ a. record { subject = subject_view a.subject; text = a.source.now; report = a.report } };
+    ghost view = { λ a. record { origin = origin_view a.origin; text = a.source.now; report = a.report } };
 
-    ghost invariant = { λ a. a.pointer ≡ a.source.now };
+    ghost invariant = { λ a. (a.pointer ≡ a.source.now) × IfSome a.within (IsEntryOf (origin_view a.origin)) };
 }
 
 impl<'s, 'c> Findings<'s, 'c> {
     /// Nothing is found yet.
-    pub(crate) fn new(
-        report: Report<'c>,
-        subject: Subject<'s>,
-        source: &'s [u8],
-    ) -> Findings<'s, 'c>
-        ensures { result ≡ record { subject = subject_view subject.entry; text = source.now; report = report.entry } }
+    pub(crate) fn new(report: Report<'c>, origin: Origin<'s>, source: &'s [u8]) -> Findings<'s, 'c>
+        ensures { result ≡ record { origin = origin_view origin.entry; text = source.now; report = report.entry } }
     {
         Findings {
-            subject,
+            origin,
             source,
             pointer: Pointer::new(source),
+            within: None,
             report,
         }
     }
@@ -191,15 +227,34 @@ impl<'s, 'c> Findings<'s, 'c> {
         if !self.report.has_line(kind) {
             return Ok(());
         }
-        let place = Some(self.pointer.place(count));
+        let place = Some(self.place(count));
         self.report.push(&Line {
-            subject: self.subject,
+            subject: self.origin.subject(),
             place,
             kind,
             before,
             name,
             after,
         })
+    }
+
+    /// The place after `count` bytes of the script.
+    fn place(&mut self, count: usize) -> Place
+        ensures place { result ≡ place_in self.old.origin self.old.text count }
+        ensures kept { self.new ≡ self.old }
+    {
+        match self.origin {
+            Origin::Own(_) => self.pointer.place(count),
+            Origin::Within(text, name) => {
+                let mut within = match self.within.take() {
+                    Some(within) => within,
+                    None => EntryPlaces::of(text, name),
+                };
+                let place = within.place(count);
+                self.within = Some(within);
+                place
+            }
+        }
     }
 
     /// Adds the fault of a text that isn't a script.

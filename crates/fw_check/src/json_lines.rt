@@ -92,6 +92,7 @@ fn push_file(alloc: Global, text: &mut Vec<u8>, subject: Subject<'_>) -> Result<
 {
     match subject {
         Subject::File(path) => push_text(alloc, text, path, b",\"line\":"),
+        Subject::Entry(path, _) => push_text(alloc, text, path, b",\"line\":"),
         Subject::Variable(_) => text.extend_from_slice(b"null,\"line\":"),
         Subject::Whole => text.extend_from_slice(b"null,\"line\":"),
     }
@@ -132,6 +133,7 @@ fn push_variable(alloc: Global, text: &mut Vec<u8>, subject: Subject<'_>) -> Res
 {
     match subject {
         Subject::Variable(name) => push_text(alloc, text, name, b"}"),
+        Subject::Entry(_, name) => push_text(alloc, text, name, b"}"),
         Subject::File(_) => text.extend_from_slice(b"null}"),
         Subject::Whole => text.extend_from_slice(b"null}"),
     }

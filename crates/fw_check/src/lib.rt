@@ -1,8 +1,8 @@
 //! A check of boot scripts that runs nothing: what is wrong with scripts, or with those of an environment from some
 //! names on, as lines. docs/check.md states the rules.
 //!
-//! To read in this order: settings, items, literals, name_set, substitutions, commands, rules, lookups, constants; lines, json_lines, findings,
-//! summary; operators, foreign, misuse, undefined_names, differences, statuses, command_names, run_targets, statements, script_check; followed, sorted_names, menu,
+//! To read in this order: settings, items, literals, name_set, substitutions, commands, rules, lookups, constants; lines, json_lines, entry_places,
+//! origins, findings, summary; operators, foreign, misuse, undefined_names, differences, statuses, command_names, run_targets, statements, script_check; followed, sorted_names, menu,
 //! script_values, following, run_names, foreseen, written, gives, text_names; starts, reading, asking, typed_values, visits; file_checks.
 #![tactic(auto)]
 
@@ -11,6 +11,7 @@ mod command_names;
 mod commands;
 mod constants;
 mod differences;
+mod entry_places;
 mod file_checks;
 mod findings;
 mod followed;
@@ -27,6 +28,7 @@ mod menu;
 mod misuse;
 mod name_set;
 mod operators;
+mod origins;
 mod reading;
 mod rules;
 mod run_names;
@@ -46,6 +48,7 @@ mod undefined_names;
 mod visits;
 mod written;
 
+pub use entry_places::EnvironmentText;
 pub use file_checks::{FileScript, check_files};
 pub use rules::{Hardware, Rules};
 pub use visits::check;

@@ -18,6 +18,8 @@ pub(crate) enum Subject<'s> {
     File(&'s [u8]),
     /// The variable of this name.
     Variable(&'s [u8]),
+    /// In the file of this path the entry of this name.
+    Entry(&'s [u8], &'s [u8]),
     /// The check as a whole.
     Whole,
 }
@@ -101,6 +103,7 @@ fn subject_text<'s>(subject: Subject<'s>) -> &'s [u8]
     match subject {
         Subject::File(path) => path,
         Subject::Variable(name) => name,
+        Subject::Entry(path, _) => path,
         Subject::Whole => b"check",
     }
 }

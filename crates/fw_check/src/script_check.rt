@@ -10,14 +10,14 @@ ghost use Rattle.finding_kinds.specs.declared.kinds.FindingKind.TheVariants as f
 ghost use Rattle.fw_check.specs.Checking.{LacksMemory, PrintsReport, errors_start, is_failed, output_end};
 ghost use Rattle.fw_check.specs.Findings.{fault_sentence, found_at, report_end};
 ghost use Rattle.fw_check.specs.Found.{found_more};
-ghost use Rattle.fw_check.specs.Lines.{subject_view};
 ghost use Rattle.fw_check.specs.Looking.{known_in, rules_in};
+ghost use Rattle.fw_check.specs.Origins.{origin_view};
 ghost use Rattle.fw_check.specs.Reports.{GoesOn, Reads, ReadsItems};
 
 use crate::findings::{Findings, Report};
 use crate::items::items_of;
-use crate::lines::Subject;
 use crate::lookups::Lookups;
+use crate::origins::Origin;
 use crate::statements::check_items;
 use crate::summary::summary;
 use finding_kinds::Format;
@@ -132,20 +132,20 @@ pub(crate) fn lacks_memory() -> ToolEnd
     }
 }
 
-/// Continues a report with what is found in a script: what that is, whether its status is asked for, and its text.
+/// Continues a report with what is found in a script: where that is, whether its status is asked for, and its text.
 pub(crate) fn check_script<'c>(
     lookups: &Lookups<'_>,
     report: Report<'c>,
-    subject: Subject<'_>,
+    origin: Origin<'_>,
     asked: bool,
     text: &[u8],
 ) -> Result<Report<'c>, AllocError>
-    ensures { IfOk result (λ after. GoesOn (known_in lookups.now) (rules_in lookups.now) (subject_view subject.entry) asked text.now
+    ensures { IfOk result (λ after. GoesOn (known_in lookups.now) (rules_in lookups.now) (origin_view origin.entry) asked text.now
         report.entry after) }
 {
     let mut so_far = report;
     so_far.add_script();
-    let mut found = Findings::new(so_far, subject, text);
+    let mut found = Findings::new(so_far, origin, text);
     found.add_return()?;
     check_reading(lookups, asked, text, &mut found)?;
     Ok(found.report())

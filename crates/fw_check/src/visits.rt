@@ -1,20 +1,22 @@
 //! What is found in the scripts of an environment.
-ghost use Rattle.std.specs.Prelude.{◌≡◌, ◌⊎◌, IfOk, OnOk, map};
-ghost use Rattle.fw_check.specs.Checking.{LacksMemory, PrintsReport, Reports, first_report, script_in, with_given, with_none, with_whole};
+ghost use Rattle.std.specs.Prelude.{◌≡◌, ◌⊎◌, IfOk, OnOk, map, option_map};
+ghost use Rattle.fw_check.specs.Checking.{LacksMemory, PrintsReport, Reports, first_report, origin_in, script_in, with_given, with_none, with_whole};
+ghost use Rattle.fw_check.specs.EntryPlaces.{text_view};
 ghost use Rattle.fw_check.specs.FileChecks.{Checks, ComesTo, follow_first, is_alone, scripts_view};
 ghost use Rattle.finding_kinds.specs.Choices.{choice_view};
 ghost use Rattle.fw_check.specs.Following.{is_among};
-ghost use Rattle.fw_check.specs.Lines.{Variable};
 ghost use Rattle.fw_check.specs.Looking.{known_in, rules_in, rules_view};
 ghost use Rattle.fw_check.specs.Reports.{GoesOn};
 
 use crate::asking::follow_asked;
+use crate::entry_places::EnvironmentText;
 use crate::file_checks::{FileScript, check_scripts};
 use crate::findings::Report;
 use crate::following::Followed;
 use crate::lines::Subject;
 use crate::lookups::{Lookups, Variables};
 use crate::menu::script;
+use crate::origins::Origin;
 use crate::reading::read_all;
 use crate::rules::Rules;
 use crate::script_check::{check_script, lacks_memory, print_report};
@@ -42,7 +44,8 @@ const NONE: &[u8] = b"there is no script to look at";
 /// `run` of a name that neither the environment has nor one of these scripts and texts sets, tests or asks for with `env
 /// exists`. A substitution of a name that neither the environment, the board's own code nor one of these defines is a
 /// warning. Without files then follow an error if there was no script, and a line for each variable of the environment whose
-/// value doesn't have the type that `.flags` gives it. On `errors` it prints how many scripts, errors and warnings there were.
+/// value doesn't have the type that `.flags` gives it. A line that isn't a text tells the place of an entry in the text that the
+/// environment was read from, if there is one (`file`). On `errors` it prints how many scripts, errors and warnings there were.
 /// The status is 1 if something was found that counts, else 0. docs/check.md has the texts.
 ///
 /// At the fault `Memory` nothing is printed.
@@ -50,20 +53,21 @@ pub fn check<W: Write, E: Write>(
     alloc: Global,
     rules: Rules<'_>,
     vars: &Vars,
+    file: Option<EnvironmentText<'_>>,
     choice: Choice<'_>,
     names: &[&[u8]],
     scripts: &[FileScript<'_>],
     output: &mut W,
     errors: &mut E,
 ) -> ToolEnd
-    ensures { Checks (rules_view rules.entry) vars.now.env (choice_view choice.entry) (map (λ n. n.now) names.now)
-        (scripts_view scripts.now)
+    ensures { Checks (rules_view rules.entry) vars.now.env (option_map text_view file.entry) (choice_view choice.entry)
+        (map (λ n. n.now) names.now) (scripts_view scripts.now)
         (record { output = W.contents output.old; errors = E.contents errors.old })
         (record { output = W.contents output.new; errors = E.contents errors.new }) result }
 {
-    match check_all(alloc, rules, vars, choice, names, scripts) {
+    match check_all(alloc, rules, vars, file, choice, names, scripts) {
         Err(_) => lacks_memory(),
-        Ok(report) => print_whole(alloc, vars, is_alone(scripts), report, output, errors),
+        Ok(report) => print_whole(alloc, vars, file, is_alone(scripts), report, output, errors),
     }
 }
 
@@ -78,6 +82,7 @@ fn is_alone(scripts: &[FileScript<'_>]) -> bool
 fn print_whole<W: Write, E: Write>(
     alloc: Global,
     vars: &Vars,
+    file: Option<EnvironmentText<'_>>,
     alone: bool,
     report: Report<'_>,
     output: &mut W,
@@ -85,11 +90,11 @@ fn print_whole<W: Write, E: Write>(
 ) -> ToolEnd
     ensures { PrintsReport (record { output = W.contents output.old; errors = E.contents errors.old })
         (record { output = W.contents output.new; errors = E.contents errors.new })
-        (with_whole alone vars.now.env report.entry) result
+        (with_whole alone vars.now.env (option_map text_view file.entry) report.entry) result
         ⊎ LacksMemory (record { output = W.contents output.old; errors = E.contents errors.old })
         (record { output = W.contents output.new; errors = E.contents errors.new }) result }
 {
-    match report_whole(vars, alone, report) {
+    match report_whole(vars, file, alone, report) {
         Err(_) => lacks_memory(),
         Ok(report) => print_report(alloc, &report, output, errors),
     }
@@ -97,15 +102,20 @@ fn print_whole<W: Write, E: Write>(
 
 /// Continues a report with a line if there was no script, and one for each variable whose value doesn't have its type, if the
 /// environment is checked alone.
-fn report_whole<'c>(vars: &Vars, alone: bool, report: Report<'c>) -> Result<Report<'c>, AllocError>
-    ensures { IfOk result (λ after. after ≡ with_whole alone vars.now.env report.entry) }
+fn report_whole<'c>(
+    vars: &Vars,
+    file: Option<EnvironmentText<'_>>,
+    alone: bool,
+    report: Report<'c>,
+) -> Result<Report<'c>, AllocError>
+    ensures { IfOk result (λ after. after ≡ with_whole alone vars.now.env (option_map text_view file.entry) report.entry) }
 {
     if !alone {
         return Ok(report);
     }
     let mut so_far = report;
     report_none(&mut so_far)?;
-    check_types(vars, so_far)
+    check_types(vars, file, so_far)
 }
 
 /// Adds a line if there was no script.
@@ -123,13 +133,14 @@ fn check_all<'c, 'k>(
     alloc: Global,
     rules: Rules<'k>,
     vars: &'k Vars,
+    file: Option<EnvironmentText<'_>>,
     choice: Choice<'c>,
     names: &[&[u8]],
     scripts: &[FileScript<'_>],
 ) -> Result<Report<'c>, AllocError>
     ensures { IfOk result (λ report. ComesTo (rules_view rules.entry)
         (follow_first (rules_view rules.entry) vars.now.env choice.entry.all (map (λ n. n.now) names.now) (scripts_view scripts.now))
-        (scripts_view scripts.now)
+        (option_map text_view file.entry) (scripts_view scripts.now)
         (first_report (choice_view choice.entry) vars.now.env (map (λ n. n.now) names.now)) report) }
 {
     let report = report_given(alloc, choice, vars, names)?;
@@ -158,7 +169,7 @@ fn check_all<'c, 'k>(
     let mut asked = Followed::new(alloc, vars, &sorted);
     follow_asked(&names_alone, vars, scripts, visited.all(), &mut asked)?;
     let after = check_scripts(&lookups, scripts, report)?;
-    report_all(&lookups, vars, &asked, visited.all(), after)
+    report_all(&lookups, vars, file, &asked, visited.all(), after)
 }
 
 /// A line for each given name that isn't defined.
@@ -192,16 +203,17 @@ fn report_name(vars: &Vars, name: &[u8], report: &mut Report<'_>) -> Result<(), 
 fn report_all<'c>(
     lookups: &Lookups<'_>,
     vars: &Vars,
+    file: Option<EnvironmentText<'_>>,
     asked: &Followed<'_, '_>,
     names: &[Vec<u8>],
     report: Report<'c>,
 ) -> Result<Report<'c>, AllocError>
-    ensures { IfOk result (λ final. Reports vars.now.env (known_in lookups.now) (rules_in lookups.now)
+    ensures { IfOk result (λ final. Reports vars.now.env (option_map text_view file.entry) (known_in lookups.now) (rules_in lookups.now)
         (is_among asked.now.names) (map (λ n. n.items) names.now) report.entry final) }
 {
     let mut so_far = report;
     for name in names {
-        so_far = report_variable(lookups, vars, asked.has(name), name, so_far)?;
+        so_far = report_variable(lookups, vars, file, asked.has(name), name, so_far)?;
     }
     Ok(so_far)
 }
@@ -210,13 +222,15 @@ fn report_all<'c>(
 fn report_variable<'c>(
     lookups: &Lookups<'_>,
     vars: &Vars,
+    file: Option<EnvironmentText<'_>>,
     asked: bool,
     name: &[u8],
     report: Report<'c>,
 ) -> Result<Report<'c>, AllocError>
     ensures { IfOk result (λ after. GoesOn (known_in lookups.now) (rules_in lookups.now)
-        (Variable name.now) asked (script_in vars.now.env name.now) report.entry after) }
+        (origin_in report.entry (option_map text_view file.entry) name.now) asked (script_in vars.now.env name.now) report.entry after) }
 {
     let text = script(lookups.alloc, vars, name)?;
-    check_script(lookups, report, Subject::Variable(name), asked, &text)
+    let origin = Origin::of(report.choice.format, file, name);
+    check_script(lookups, report, origin, asked, &text)
 }

@@ -1,4 +1,4 @@
-use Rattle.std.proofs.Common.{◌≡◌, [], true, ap, subst, ◌∙◌, map, false}
+use Rattle.std.proofs.Common.{true, ap, subst, ◌∙◌, map, false}
 use Rattle.std.specs.Prelude.{OnOk}
 use Rattle.std.specs.List.{flat_map}
 use Rattle.fw_check.specs.Checking.{AreFollowed, script_in}

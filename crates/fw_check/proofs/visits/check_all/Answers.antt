@@ -1,9 +1,10 @@
 use Rattle.std.proofs.Common.{◌≡◌, ℕ, Bool, List, [], Some, ap, map, subst, sym, ◌∙◌}
-use Rattle.std.specs.Prelude.{IfOk, Result, Ok, Err}
+use Rattle.std.specs.Prelude.{IfOk, Option, Result, Ok, Err, option_map}
 use Rattle.envimg_core.specs.Environment.{Environment}
 use Rattle.finding_kinds.specs.Choices.{Choice, choice_view}
 use Rattle.fw_check.specs.Called.{Given}
 use Rattle.fw_check.specs.Checking.{AreAsked, AreVisited, Reports, first_report, follow_texts, known_after}
+use Rattle.fw_check.specs.EntryPlaces.{EnvironmentText, text_view}
 use Rattle.fw_check.specs.FileChecks.{ComesTo, FileScript, ReportsFiles, follow_first, is_alone, script_texts, scripts_view}
 use Rattle.fw_check.specs.Findings.{Report}
 use Rattle.fw_check.specs.Knowing.{Known}
@@ -18,14 +19,14 @@ read_all-requires c =
     ap (λ (f : Followed). f.env) c.in_ok-follow_first.ensures ∙ all-env (rules_view c.args.rules).hardware c.new-visited.result c.args.choice.all c.is_alone.result (map (λ n. n.now) c.args.names.now) ∙ ap (λ (f : Followed). f.env) c.new-visited.ensures
 
 -- a report on the scripts of files and on the names that were visited
-comes : {E : Type 0} (r : Result Report E) (rules : Given) (env : Environment) (choice : Choice) (names listed all asked : List (List ℕ)) (scripts : List FileScript) (alone : Bool) (new after : Followed) (gave foresaw wrote : List ℕ → Bool)
+comes : {E : Type 0} (r : Result Report E) (rules : Given) (env : Environment) (file : Option EnvironmentText) (choice : Choice) (names listed all asked : List (List ℕ)) (scripts : List FileScript) (alone : Bool) (new after : Followed) (gave foresaw wrote : List ℕ → Bool)
     (begun filed : Report) → new ≡ record { env = env; names = [] } → alone ≡ is_alone scripts → after ≡ begin_all rules.hardware new choice.all alone names → AreVisited rules (follow_texts rules (script_texts scripts) after) 0 all → AreAsked rules env (script_texts scripts) listed asked →
     gave ≡ (known_after rules env (script_texts scripts) all).given → foresaw ≡ (known_after rules env (script_texts scripts) all).foreseen → wrote ≡ (known_after rules env (script_texts scripts) all).written → listed ≡ all → begun ≡ first_report choice env names →
     ReportsFiles (Some (record { env = env; given = gave; foreseen = foresaw; written = wrote })) rules scripts begun filed →
-    IfOk r (λ final. Reports env (Some (record { env = env; given = gave; foreseen = foresaw; written = wrote })) rules (is_among asked) listed filed final) →
-    IfOk r (λ final. ComesTo rules (follow_first rules env choice.all names scripts) scripts (first_report choice env names) final)
-comes (Err e) rules env choice names listed all asked scripts alone new after gave foresaw wrote begun filed start is_lone follow visited asks given foreseen written same report files h = tt
-comes (Ok final) rules env choice names listed all asked scripts alone new after gave foresaw wrote begun filed start is_lone follow visited asks given foreseen written same report files h =
+    IfOk r (λ final. Reports env file (Some (record { env = env; given = gave; foreseen = foresaw; written = wrote })) rules (is_among asked) listed filed final) →
+    IfOk r (λ final. ComesTo rules (follow_first rules env choice.all names scripts) file scripts (first_report choice env names) final)
+comes (Err e) rules env file choice names listed all asked scripts alone new after gave foresaw wrote begun filed start is_lone follow visited asks given foreseen written same report files h = tt
+comes (Ok final) rules env file choice names listed all asked scripts alone new after gave foresaw wrote begun filed start is_lone follow visited asks given foreseen written same report files h =
     let texts = script_texts scripts in
     let is : after ≡ begin_with rules.hardware env choice.all (is_alone scripts) names =
     follow ∙ ap (λ (f : Followed). begin_all rules.hardware f choice.all alone names) start ∙ ap (λ (b : Bool). begin_with rules.hardware env choice.all b names) is_lone in
@@ -38,8 +39,8 @@ comes (Ok final) rules env choice names listed all asked scripts alone new after
     ∙ ap (λ (w : List ℕ → Bool). knows after_all.given after_all.foreseen w) written in
     let in_files = subst (λ (r : Report). ReportsFiles (Some (known_after rules env texts all)) rules scripts r filed) report
     (subst (λ (k : Known). ReportsFiles (Some k) rules scripts begun filed) known files) in
-    let in_names = subst (λ (ns : List (List ℕ)). Reports env (Some (known_after rules env texts all)) rules (is_among asked) ns filed final) same
-    (subst (λ (k : Known). Reports env (Some k) rules (is_among asked) listed filed final) known h) in
+    let in_names = subst (λ (ns : List (List ℕ)). Reports env file (Some (known_after rules env texts all)) rules (is_among asked) ns filed final) same
+    (subst (λ (k : Known). Reports env file (Some k) rules (is_among asked) listed filed final) known h) in
     let asking = subst (λ (e : Environment). AreAsked rules e texts all asked) (sym envs) (subst (λ (ns : List (List ℕ)). AreAsked rules env texts ns asked) same asks) in (
       all,
       asked,
@@ -47,7 +48,7 @@ comes (Ok final) rules env choice names listed all asked scripts alone new after
       seen,
       asking,
       subst (λ (e : Environment). ReportsFiles (Some (known_after rules e texts all)) rules scripts (first_report choice env names) filed) (sym envs) in_files,
-      subst (λ (e : Environment). Reports e (Some (known_after rules e texts all)) rules (is_among asked) all filed final) (sym envs) in_names,
+      subst (λ (e : Environment). Reports e file (Some (known_after rules e texts all)) rules (is_among asked) all filed final) (sym envs) in_names,
     )
 
 pub returns : goal.returns
@@ -57,7 +58,7 @@ returns c =
     let scripts = scripts_view c.args.scripts.now in
     let asked = c.follow_asked.new.asked.names in
     let asks = subst (λ (ns : List (List ℕ)). AreAsked rules env (script_texts scripts) ns asked) (c.all.ensures ∙ sym c.all-2.ensures) c.in_ok-follow_asked.ensures in
-    comes c.report_all.result rules env (choice_view c.args.choice) (map (λ n. n.now) c.args.names.now) (map (λ n. n.items) c.all-2.result.now) c.read_all.new.names.names asked
+    comes c.report_all.result rules env (option_map text_view c.args.file) (choice_view c.args.choice) (map (λ n. n.now) c.args.names.now) (map (λ n. n.items) c.all-2.result.now) c.read_all.new.names.names asked
     scripts c.is_alone.result c.new-visited.result c.follow_first.new.followed (set_of c.in_ok-gathered.gathered.given) (set_of c.in_ok-gathered.gathered.foreseen) (set_of c.in_ok-gathered.gathered.written) c.in_ok-report.report c.in_ok-after.after
     c.new-visited.ensures c.is_alone.ensures c.in_ok-follow_first.ensures c.in_ok-gathered.ensures.visited asks c.in_ok-gathered.ensures.given c.in_ok-gathered.ensures.foreseen c.in_ok-gathered.ensures.written c.all-2.ensures c.in_ok-report.ensures c.in_ok-after.ensures
     c.report_all.ensures
