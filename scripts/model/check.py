@@ -129,12 +129,13 @@ class Known:
     written: set = frozenset()
 
 
-# How a file, a variable and the check as a whole are told of
-FILE, VARIABLE, WHOLE = "file", "variable", None
+# How a file and a variable are told of
+FILE, VARIABLE = "file", "variable"
 TEXT, GCC, JSON = b"text", b"gcc", b"json"
 
 
-def as_text(name, place, kind, sentence):
+def as_text(told, place, kind, sentence):
+    name = told.get(FILE) or told.get(VARIABLE) or b"check"
     return b"%s: %s: %s [%s]" % (b":".join([name, *(b"%d" % number for number in place)]), KINDS[kind], sentence, kind)
 
 
@@ -143,42 +144,56 @@ def on_one_line(line):
     return re.sub(rb"[\0-\x1f\x7f]", b"?", line)
 
 
-def as_json(subject, name, place, kind, sentence):
+def as_json(told, place, kind, sentence):
     line, column = place or (None, None)
-    told = {"code": kind, "column": column, "file": None, "line": line, "message": sentence, "severity": KINDS[kind], "variable": None}
-    if subject:
-        told[subject] = name
-    text = {key: value.decode(errors="replace") if isinstance(value, bytes) else value for key, value in told.items()}
+    found = {"code": kind, "column": column, "file": None, "line": line, "message": sentence, "severity": KINDS[kind], "variable": None, **told}
+    text = {key: value.decode(errors="replace") if isinstance(value, bytes) else value for key, value in found.items()}
     return json.dumps(text, ensure_ascii=False, separators=(",", ":")).encode()
 
 
 @dataclass
 class Report:
-    """What is asked: the codes of the kinds that are left out, whether warnings count as errors, and the format. The lines, whether something was
+    """What is asked: the codes of the kinds that are left out, whether warnings count as errors, and the format. If places are told in the text that
+    the environment was read from, its path, the text and where each byte of its values begins. The lines, whether something was
     found that has no line, how many scripts were looked at, and how many errors and warnings were found."""
 
     ignored: tuple = ()
     is_strict: bool = False
     format: bytes = TEXT
+    source: tuple = None
     text: bytes = b""
     is_cut: bool = False
     scripts: int = 0
     found: Counter = field(default_factory=Counter)
 
-    def add_line(self, subject, name, place, kind, sentence):
+    def add_line(self, told, place, kind, sentence):
         if kind in self.ignored:
             return
         if len(self.text) < MOST:
-            line = as_json(subject, name, place, kind, sentence) if self.format == JSON else as_text(name, place, kind, sentence)
+            line = (as_json if self.format == JSON else as_text)(told, place, kind, sentence)
             self.text += (on_one_line(line) if self.format == GCC else line) + b"\n"
         else:
             self.is_cut = True
         self.found[KINDS[kind]] += 1
 
-    def add(self, subject, name, text, findings):
+    def add(self, told, text, findings):
         self.scripts += 1
         for finding in findings:
-            self.add_line(subject, name, line_and_column(text, finding.place), finding.kind, finding.sentence)
+            self.add_line(told, line_and_column(text, finding.place), finding.kind, finding.sentence)
+
+    def add_script(self, name, script, findings):
+        """Those in the script of a variable."""
+        if self.format == TEXT or self.source is None:
+            return self.add({VARIABLE: name}, script, findings)
+        path, text, offsets = self.source
+        self.add({FILE: path, VARIABLE: name}, text, [Finding(offsets[name][each.place], each.kind, each.sentence) for each in findings])
+
+    def add_value(self, name, kind, sentence):
+        """One in the whole value of a variable."""
+        if self.format == TEXT or self.source is None:
+            return self.add_line({VARIABLE: name}, (), kind, sentence)
+        path, text, offsets = self.source
+        self.add_line({FILE: path, VARIABLE: name}, line_and_column(text, offsets[name][0]), kind, sentence)
 
     def printed(self):
         return self.text + MORE * (self.is_cut and self.format == TEXT)
@@ -634,7 +649,7 @@ def of_files(shell, scripts, stand_ins, board, *asked):
     """The scripts of files alone, each a path and its text."""
     report = Report(*asked)
     for path, text in scripts:
-        report.add(FILE, path, text, findings(text, Known(shell, None, stand_ins, board)))
+        report.add({FILE: path}, text, findings(text, Known(shell, None, stand_ins, board)))
     return report
 
 
@@ -712,7 +727,7 @@ def of_environment(shell, values, stand_ins, board, own, names, files, is_all, *
     report = Report(*asked)
     for name in names:
         if name not in values:
-            report.add_line(VARIABLE, name, (), b"no-variable", NOT_DEFINED)
+            report.add_line({VARIABLE: name}, (), b"no-variable", NOT_DEFINED)
     known = Known(shell, values, stand_ins, board)
     usual = [*STARTED, *sorted(name for name in values if is_entry(name, values))]
     if is_all:
@@ -725,14 +740,14 @@ def of_environment(shell, values, stand_ins, board, own, names, files, is_all, *
     known.written = names_by(written_names, known, scripts, texts)
     known.asked = asked_among(scripts, known, texts)
     for path, text in files:
-        report.add(FILE, path, text, findings(text, known))
+        report.add({FILE: path}, text, findings(text, known))
     for name in scripts:
         script = text_of_script(name, values)
-        report.add(VARIABLE, name, script, findings(script, known, name in known.asked))
+        report.add_script(name, script, findings(script, known, name in known.asked))
     if files:
         return report
     if not scripts:
-        report.add_line(WHOLE, b"check", (), b"no-script", NOTHING)
+        report.add_line({}, (), b"no-script", NOTHING)
     for name in not_typed(values):
-        report.add_line(VARIABLE, name, (), b"value-type", NOT_TYPED)
+        report.add_value(name, b"value-type", NOT_TYPED)
     return report

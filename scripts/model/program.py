@@ -447,10 +447,18 @@ class Program:
         if is_alone:
             found = check.of_files(shell, scripts, *hardware, *asked)
         else:
-            found = check.of_environment(shell, values, *hardware, known, call.words, scripts, "--all" in call.options, *asked)
+            found = check.of_environment(shell, values, *hardware, known, call.words, scripts, "--all" in call.options, *asked, self.offsets(call))
         self.output = found.printed()
         self.say(found.last())
         return found.status()
+
+    def offsets(self, call):
+        """The text that is the whole environment, and where the bytes of its values begin, if it is one for import in a file."""
+        initial, path = call.options.get("--env-plain"), call.options.get("--env-plain", call.options.get("--env"))
+        if path in (None, b"-"):
+            return None
+        text = texts.closed_lines(self.text(path)) if initial else self.text(path)
+        return path, text, texts.value_offsets(text)
 
     def call_session(self, call):
         call.size_in_memory()

@@ -129,6 +129,8 @@ def refuse_pair(first, second, size, second_size):
 SKIPPED = re.compile(rb"(?:[ \t\n]|#[^\n]*)*")
 ENTRY = re.compile(rb"([^=\n]*)(?:=((?:[^\\\n]+|\\.|\\\Z)*))?", re.DOTALL)
 ESCAPED = re.compile(rb"\\(.)", re.DOTALL)
+# How a text spells one byte of a value
+SPELLED = re.compile(rb"\\?.", re.DOTALL)
 
 
 def refuse_nul(text):
@@ -232,14 +234,30 @@ def import_entries(text):
     return found
 
 
-def initial_entries(text):
-    """Of lines as U-Boot's build prints them: a backslash at a line's end stands for itself, unless one before it makes it literal."""
+def value_offsets(text):
+    """Where each byte of a value begins in a text for import, and where the value ends, by names; the last entry of a name counts."""
+    found, at = {}, skipped(text, 0)
+    while at < len(text):
+        entry = ENTRY.match(text, at)
+        if entry[2] is not None:
+            found[entry[1]] = [*(entry.start(2) + byte.start() for byte in SPELLED.finditer(entry[2])), entry.end(2)]
+        at = skipped(text, entry.end())
+    return found
+
+
+def closed_lines(text):
+    """Lines as U-Boot's build prints them, as a text for import: a backslash at a line's end stands for itself, unless one before it makes
+    it literal."""
     lines = []
     for line in text.split(b"\n"):
         # backslashes at the end of a line, in pairs and perhaps one more
         is_odd = len(re.search(rb"\\*$", line)[0]) % 2
         lines.append(line + b"\\" * is_odd)
-    return import_entries(b"\n".join(lines))
+    return b"\n".join(lines)
+
+
+def initial_entries(text):
+    return import_entries(closed_lines(text))
 
 
 def set_script_entries(text):

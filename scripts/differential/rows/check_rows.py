@@ -417,15 +417,15 @@ FORMATS = {
     ),
     b"json": (
         b'{"code":"no-variable","column":null,"file":null,"line":null,"message":"no variable of this name is defined","severity":"error","variable":"n"}\n'
-        b'{"code":"undefined-name","column":6,"file":null,"line":1,"message":"`${y}` names a variable that nothing defines","severity":"warning","variable":"s"}\n',
+        b'{"code":"undefined-name","column":8,"file":"env","line":1,"message":"`${y}` names a variable that nothing defines","severity":"warning","variable":"s"}\n',
         b'{"code":"other-shell","column":3,"file":"a.sh","line":2,"message":"this shell has no `break`","severity":"error","variable":null}\n',
     ),
 }
-FORMATS[b"gcc"] = FORMATS[b"text"]
+FORMATS[b"gcc"] = (FORMATS[b"text"][0].replace(b"s:1:6", b"env:1:8"), FORMATS[b"text"][1])
 NOTHING_AS_JSON = (
     b'{"code":"no-script","column":null,"file":null,"line":null,"message":"there is no script to look at","severity":"error","variable":null}\n'
 )
-ANY_AS_JSON = b'{"code":"run-unknown","column":5,"file":null,"line":1,"message":"what this runs is not known, so it is not followed","severity":"note","variable":"s"}\n'
+ANY_AS_JSON = b'{"code":"run-unknown","column":7,"file":"env","line":1,"message":"what this runs is not known, so it is not followed","severity":"note","variable":"s"}\n'
 # Bytes of a name of a command, and what is printed of them as text, as compilers do, and as JSON
 ODD = [
     (b"a\tb", b"a\tb", b"a?b", b"a\\tb"),
@@ -449,7 +449,7 @@ def formats():
         yield in_format("nothing in a format", given, [b"-f", b"s"], {b"s": b"true\n"}, b"")
         nothing = NOTHING_AS_JSON if given == b"json" else lines([NOTHING])
         yield in_format("no script in a format", given, [b"--env", b"env"], {b"env": b"a=1\n"}, nothing, (1, 0))
-        any_name = ANY_AS_JSON if given == b"json" else lines([any_target("s:1:5")])
+        any_name = ANY_AS_JSON if given == b"json" else lines([any_target("s:1:5" if given == b"text" else "env:1:7")])
         yield in_format("a note in a format", given, [b"--env", b"env", b"s"], {b"env": b"s=run $y; y=1\n"}, any_name)
     for name, *told in ODD:
         files = {b"s": b"'%s'\n" % name, b"none": b""}
@@ -461,6 +461,36 @@ def formats():
     for given in (b"text", b"gcc", b"json"):
         yield Case("more than is printed", [b"check", b"-f", b"s", b"--format", given], {b"s": b"break\n" * 3_000}, seconds=1)
         yield Case("odd names", [b"check", b"--env", b"env", b"--format", given, b"x\ty", b"\xc3\xa9"], {b"env": b"\xff=1\n.flags=x:d\n"})
+
+
+# Places in the text of an environment: the option before its path, the text, and what is found as compilers print it
+PLACES = [
+    (b"--env", b"# a\n  a=1\ns=echo 'x\\;'\\\n$y\n", not_defined("env:4:1", "y")),
+    (b"--env", b"s=echo \\a\\b $y\n", not_defined("env:1:13", "y")),
+    (b"--env", b"s=echo \\$y", not_defined("env:1:8", "y")),
+    (b"--env", b"s=echo $y\ns=echo a; echo $z\nsoon=1\n", not_defined("env:2:16", "z")),
+    (b"--env", b"t=a\\\nb=c\n\n \ts=break\n", lacked("env:4:5", "break")),
+    (b"--env", b"s=a=1; $y=b\n", not_defined("env:1:8", "y")),
+    (b"--env", b"s=true; '", no_script("env:1:9", "Quote")),
+    (b"--env", b"s=a\n.flags=s:d\n", not_typed("env:1:3")),
+    (b"--env", b"t=\\z\ns=1\n.flags=s:d,t:x\n", not_typed("env:1:3")),
+    (b"--env-plain", b"t=1\\\ns=echo $y\n", not_defined("env:2:8", "y")),
+    (b"--env-plain", b"t=1\n\ns=echo \\a $y\n", not_defined("env:3:11", "y")),
+]
+
+
+def places():
+    """A finding is told by its place in the file of the environment, in the formats for programs."""
+    gcc = [b"--format", b"gcc"]
+    for option, text, found in PLACES:
+        yield row("a place", [*gcc, option, b"env", b"s"], {b"env": text}, lines([found]), scripts=1)
+    menu = {b"env": b"a=1\nbootmenu_0=Title=echo $y\n"}
+    yield row("a place in a menu", [*gcc, b"--env", b"env"], menu, lines([not_defined("env:2:23", "y")]), scripts=1)
+    text, own = b"s=echo $y\n", lines([not_defined("s:1:6", "y")])
+    yield row("an environment without a file", [*gcc, b"--env", b"-", b"s"], {}, own, given=text)
+    yield row("a source of U-Boot", [*gcc, b"--env-source", b"env", b"s"], {b"env": text}, own)
+    copies = board(Geometry(1, 64), [Geometry(1, 64).image(0, b"s=echo $y\0")])
+    yield row("copies have no lines", arguments(b"check", *gcc, b"s")[1:], copies, own)
 
 
 def several():
@@ -596,4 +626,4 @@ def words():
 
 
 def chunks():
-    return [*check_kinds.chunks(), followed, all_looked_at, known, limits, counting, formats, several, over_environment, opened, words]
+    return [*check_kinds.chunks(), followed, all_looked_at, known, limits, counting, formats, places, several, over_environment, opened, words]
