@@ -12,7 +12,7 @@ use Rattle.fw_files.specs.declared.reasons.Reason.{Reason}
 use Rattle.fw_files.specs.declared.stop.Stop.{Stop}
 use Rattle.fw_files.specs.declared.stop.Stop.TheVariants as stop
 use Rattle.fw_tools.specs.FaultLines.{ending, fault_line}
-use Rattle.fw_tools.specs.Said.{SaysLine, message_of}
+use Rattle.fw_tools.specs.Said.{message_of}
 use Rattle.fw_tools.specs.declared.explains.Explains.{Explains}
 use Rattle.fw_tools.specs.declared.explains.Explains.TheVariants as line
 use Rattle.fw_tools.specs.declared.halt.Halt.{Halt}
@@ -52,17 +52,19 @@ lock_file_line folder end = concat (codes "fwenv: cannot lock " ∷ folder ∷ c
 abbrev pub lock_line : (folder : List ℕ) → Reason → List ℕ
 lock_line folder reason = lock_file_line folder (ending line.Reason reason)
 
--- what is printed, as far as standard error takes it; of some faults of texts no line is known
+-- what is printed, as far as standard error takes it
 abbrev pub SaysStop : Explains → Stop → Option (List ℕ) → Option (List ℕ) → Type 0
 SaysStop explains stop.Memory old new = AppendsFront old new (message_of stream.Memory)
-SaysStop explains (stop.File path fault) old new = SaysLine (fault_line explains path.now fault) old new
-SaysStop explains (stop.Copy config fault) old new = SaysLine (fault_line explains (device_of config fault.is_second) fault.fault) old new
+SaysStop explains (stop.File path fault) old new = AppendsFront old new (fault_line explains path.now fault)
+SaysStop explains (stop.Copy config fault) old new =
+    AppendsFront old new (fault_line explains (device_of config fault.is_second) fault.fault)
 SaysStop explains stop.Overlap old new = AppendsFront old new (codes "fwenv: copies overlap\n")
 SaysStop explains (stop.BadCopy is_second state) old new = AppendsFront old new (bad_copy_line is_second state)
 SaysStop explains stop.NoSecondCopy old new = AppendsFront old new (codes "fwenv: there is no second copy\n")
 SaysStop explains (stop.NoGoodCopy first second) old new = AppendsFront old new (no_good_copy_line first second)
 SaysStop explains (stop.Defaults path fault warning) old new =
-    (warned : Option (List ℕ)) × AppendsFront old warned warning.now × SaysLine (fault_line explains path.now fault) warned new
+    (warned : Option (List ℕ)) × AppendsFront old warned warning.now
+    × AppendsFront warned new (fault_line explains path.now fault)
 SaysStop explains (stop.Misread line) old new = AppendsFront old new line.items
 SaysStop explains (stop.NotLocked folder reason) old new = AppendsFront old new (lock_line folder.now reason)
 

@@ -5,6 +5,7 @@ pub mod CopyReport
 pub mod Dumps
 pub mod EntryPoint
 pub mod FaultLines
+pub mod FaultNames
 pub mod Greeting
 pub mod HaltLines
 pub mod NewImages

@@ -20,11 +20,6 @@ Says (Some fault) err err' = AppendsFront err err' (message_of fault)
 abbrev pub SaysSome : Option (List ℕ) → Option (List ℕ) → Type 0
 SaysSome old new = (text : List ℕ) × Appends old new text
 
--- this text is printed as far as standard error takes it; or some text, if it is `None`
-abbrev pub SaysLine : Option (List ℕ) → Option (List ℕ) → Option (List ℕ) → Type 0
-SaysLine None old new = SaysSome old new
-SaysLine (Some line) old new = AppendsFront old new line
-
 -- nothing is printed
 abbrev pub AreSame : Writers → Writers → Type 0
 AreSame old new = (new.output ≡ old.output) × (new.errors ≡ old.errors)

@@ -40,7 +40,7 @@ pub(crate) fn write_back<X: Files + AllocGlobal, S: Start, E: Write>(
     match fw_files::write_back(rt, source, last, stored, devices) {
         Ok(()) => Some(()),
         Err(stop) => {
-            say_halt(rt.alloc(), errors, explains, &Halt::Files(stop));
+            say_halt(errors, explains, &Halt::Files(stop));
             None
         }
     }

@@ -1,6 +1,6 @@
 //! The program over its arguments and streams.
 ghost use Rattle.std.specs.Prelude.{◌≡◌, ◌⊎◌, ◌≤◌, ℕ, MatchResult, Ok, map, option_map};
-ghost use Rattle.clap.specs.Words.{found_of, kind_of, rows_of};
+ghost use Rattle.clap.specs.Words.{kind_of};
 ghost use Rattle.device_files.specs.Record.{calls_in};
 ghost use Rattle.fw_tools.specs.CheckRuns.{unchecked};
 ghost use Rattle.fw_tools.specs.EntryPoint.{RepliesTo, Does, asks_check, begins_check, is_flag, is_shown, LacksMemory, Runs, ShowsAndSays, message_without_words, refused_status};
@@ -202,13 +202,7 @@ fn run_asked<X: System + AllocGlobal, D: Start, R: Read, W: Write, E: Write>(
         result }
 {
     let ended = do_asked(rt, asked, devices, input, output, errors);
-    status_or_say(
-        rt.alloc(),
-        errors,
-        Explains::of(asked),
-        ended,
-        stopped_status(asked),
-    )
+    status_or_say(errors, Explains::of(asked), ended, stopped_status(asked))
 }
 
 /// The status of what ends before its work.

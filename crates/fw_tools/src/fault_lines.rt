@@ -1,17 +1,16 @@
 //! What is printed of a file that can't be used.
-ghost use Rattle.std.specs.Prelude.{◌≡◌, ◌++◌};
+ghost use Rattle.std.specs.Prelude.{◌≡◌, None, Some};
 ghost use Rattle.fw_engines.specs.Streams.{AppendsFront};
 ghost use Rattle.fw_files.specs.Files.{reason_in};
-ghost use Rattle.fw_tools.specs.FaultLines.{ending, entry_line, fault_line, line_end, name_of, place_line};
-ghost use Rattle.fw_tools.specs.Said.{SaysLine, SaysSome};
+ghost use Rattle.fw_tools.specs.FaultLines.{ending, fault_line, line_end, named_line, path_line, place_line};
+ghost use Rattle.fw_tools.specs.FaultNames.{named_view};
 
 use crate::explains::Explains;
-use envvars_core::Refusal;
+use crate::fault_names::{NamedFault, config_fault, refused_entry, stub_fault, text_fault};
 use fw_engines::OUT_OF_MEMORY;
-use fw_engines::streams::{say, write_parts, write_three, write_two};
+use fw_engines::streams::{say, write_parts, write_three};
 use fw_files::{FileFault, Reason};
 use itoa::Buffer;
-use std::alloc::Global;
 use std::io::Write;
 
 /// Before the path of a file that can't be read, or written.
@@ -48,14 +47,9 @@ const IN_LINE: &[u8] = b" in line ";
 const NEWLINE: &[u8] = b"\n";
 
 /// Prints on `errors` why a file can not be used, as far as `errors` takes it.
-pub(crate) fn say_fault<E: Write>(
-    alloc: Global,
-    errors: &mut E,
-    explains: Explains,
-    path: &str,
-    fault: FileFault,
-)
-    ensures { SaysLine (fault_line explains path.now fault) (E.contents errors.old) (E.contents errors.new) }
+pub(crate) fn say_fault<E: Write>(errors: &mut E, explains: Explains, path: &str, fault: FileFault)
+    ensures { AppendsFront (E.contents errors.old) (E.contents errors.new)
+        (fault_line explains path.now fault) }
 {
     match fault {
         FileFault::CannotRead(reason) => {
@@ -69,46 +63,49 @@ pub(crate) fn say_fault<E: Write>(
         FileFault::Foreign(kind) => say_path(errors, FWENV, path, kind.ending()),
         FileFault::Yaml => say_path(errors, FWENV, path, IS_YAML),
         FileFault::UbiVolume => say_path(errors, FWENV, path, IS_UBI_VOLUME),
-        FileFault::Config(refused) => match refused.to_string(alloc) {
-            Ok(name) => say_refused(errors, path, name.as_bytes()),
-            Err(_) => say(errors, OUT_OF_MEMORY),
-        },
-        FileFault::Text(refused) => match refused.to_string(alloc) {
-            Ok(name) => say_refused(errors, path, name.as_bytes()),
-            Err(_) => say(errors, OUT_OF_MEMORY),
-        },
-        FileFault::Stubs(refused) => match refused.to_string(alloc) {
-            Ok(name) => say_refused(errors, path, name.as_bytes()),
-            Err(_) => say(errors, OUT_OF_MEMORY),
-        },
+        FileFault::Config(refused) => say_named(errors, path, config_fault(refused)),
+        FileFault::Text(refused) => say_named(errors, path, text_fault(refused)),
+        FileFault::Stubs(refused) => say_named(errors, path, stub_fault(refused)),
         FileFault::Board(refused) => say_place(errors, path, refused.line, refused.kind.text()),
         FileFault::Source(refused) => say_place(errors, path, refused.line, refused.flaw.text()),
         FileFault::NoName(line) => say_place(errors, path, line, NO_NAME),
         FileFault::Bare(line) => say_place(errors, path, line, NO_EQUALS),
-        FileFault::Default(line, refusal) => say_entry(errors, path, name_of(refusal), line),
+        FileFault::Default(line, refusal) => {
+            say_named(errors, path, refused_entry(line, refusal))
+        }
     }
 }
 
 /// Prints a path between two texts.
 fn say_path<E: Write>(errors: &mut E, front: &[u8], path: &str, back: &[u8])
-    ensures { AppendsFront (E.contents errors.old) (E.contents errors.new) (front.now ++ path.now ++ back.now) }
+    ensures { AppendsFront (E.contents errors.old) (E.contents errors.new) (path_line front.now path.now back.now) }
 {
     let _ = write_three(errors, front, path.as_bytes(), back);
 }
 
-/// Prints why the text in a file is refused.
-fn say_refused<E: Write>(errors: &mut E, path: &str, name: &[u8])
-    ensures { SaysSome (E.contents errors.old) (E.contents errors.new) }
+/// Prints which fault a file has, and in which line, if it is in one.
+fn say_named<E: Write>(errors: &mut E, path: &str, fault: NamedFault)
+    ensures { AppendsFront (E.contents errors.old) (E.contents errors.new)
+        (named_line path.now (named_view fault)) }
 {
-    if !write_three(errors, FWENV, path.as_bytes(), COLON) {
-        return;
+    match fault.line {
+        None => say_whole(errors, path, fault.name),
+        Some(line) => say_in_line(errors, path, fault.name, line),
     }
-    let _ = write_two(errors, name, NEWLINE);
 }
 
-/// Prints which entry of a file is refused, and why.
-fn say_entry<E: Write>(errors: &mut E, path: &str, name: &[u8], line: usize)
-    ensures { AppendsFront (E.contents errors.old) (E.contents errors.new) (entry_line path.now name.now line) }
+/// Prints which fault a file has as a whole.
+fn say_whole<E: Write>(errors: &mut E, path: &str, name: &[u8])
+    ensures { AppendsFront (E.contents errors.old) (E.contents errors.new)
+        (named_line path.now (name.now, None)) }
+{
+    let _ = write_parts(errors, &[FWENV, path.as_bytes(), COLON, name, NEWLINE]);
+}
+
+/// Prints which fault is in a line of a file.
+fn say_in_line<E: Write>(errors: &mut E, path: &str, name: &[u8], line: usize)
+    ensures { AppendsFront (E.contents errors.old) (E.contents errors.new)
+        (named_line path.now (name.now, Some line)) }
 {
     let mut digits = Buffer::new();
     let _ = write_parts(
@@ -142,21 +139,6 @@ fn say_place<E: Write>(errors: &mut E, path: &str, line: usize, text: &[u8])
             NEWLINE,
         ],
     );
-}
-
-/// The name of a refusal.
-fn name_of(refusal: Refusal) -> &'static [u8]
-    ensures { result.now ≡ name_of refusal }
-{
-    match refusal {
-        Refusal::BadForm => b"BadForm",
-        Refusal::BadType => b"BadType",
-        Refusal::NoCreate => b"NoCreate",
-        Refusal::NoDelete => b"NoDelete",
-        Refusal::NoOverwrite => b"NoOverwrite",
-        Refusal::Full => b"Full",
-        Refusal::Memory => b"Memory",
-    }
 }
 
 /// What follows the path of the file: the reason, if it is known and reported, and the end of the line.

@@ -4,17 +4,15 @@ ghost use Rattle.fw_engines.specs.Streams.{AppendsFront};
 ghost use Rattle.fw_tools.specs.FaultLines.{fault_line};
 ghost use Rattle.fw_files.specs.Copies.{device_of};
 ghost use Rattle.fw_tools.specs.HaltLines.{SaysHalt, SaysStop, bad_copy_line, fault_of_copy, lock_file_line, lock_line, no_good_copies_line, no_good_copy_line};
-ghost use Rattle.fw_tools.specs.Said.{SaysLine};
 
 use crate::explains::Explains;
 use crate::fault_lines::{ending, say_fault};
 use crate::halt::Halt;
 use envcfg_core::Config;
 use envimg_core::CopyState;
-use fw_engines::streams::{say, write_parts, write_three, write_two};
+use fw_engines::streams::{say, write_parts, write_three};
 use fw_engines::{OUT_OF_MEMORY, say_syntax_fault};
 use fw_files::{CopyFault, Reason, Stop, device_of};
-use std::alloc::Global;
 use std::io::Write;
 
 /// Before a name of `--boots` or `--resets` of which there is no stand-in.
@@ -36,11 +34,11 @@ const LOOK_AT: &[u8] =
     b"; look at the size and the number of lines in the configuration, and at the byte order (--big-endian)\n";
 
 /// Prints on `errors` why a subcommand ended before its work, as far as `errors` takes it.
-pub(crate) fn say_halt<E: Write>(alloc: Global, errors: &mut E, explains: Explains, halt: &Halt<'_>)
+pub(crate) fn say_halt<E: Write>(errors: &mut E, explains: Explains, halt: &Halt<'_>)
     ensures { SaysHalt explains halt.now (E.contents errors.old) (E.contents errors.new) }
 {
     match halt {
-        Halt::Files(stop) => say_stop(alloc, errors, explains, stop),
+        Halt::Files(stop) => say_stop(errors, explains, stop),
         Halt::Script(name, text, fault) => say_syntax_fault(errors, name.as_bytes(), text, *fault),
         Halt::NoStandIn(name, back) => {
             let _ = write_three(errors, INVALID_VALUE, name.as_bytes(), back);
@@ -49,20 +47,20 @@ pub(crate) fn say_halt<E: Write>(alloc: Global, errors: &mut E, explains: Explai
 }
 
 /// The same of one that can't go on with its files.
-fn say_stop<E: Write>(alloc: Global, errors: &mut E, explains: Explains, stop: &Stop<'_>)
+fn say_stop<E: Write>(errors: &mut E, explains: Explains, stop: &Stop<'_>)
     ensures { SaysStop explains stop.now (E.contents errors.old) (E.contents errors.new) }
 {
     match stop {
         Stop::Memory => say(errors, OUT_OF_MEMORY),
-        Stop::File(path, fault) => say_fault(alloc, errors, explains, path, *fault),
-        Stop::Copy(config, fault) => say_copy(alloc, errors, explains, config, *fault),
+        Stop::File(path, fault) => say_fault(errors, explains, path, *fault),
+        Stop::Copy(config, fault) => say_copy(errors, explains, config, *fault),
         Stop::Overlap => say(errors, b"fwenv: copies overlap\n"),
         Stop::BadCopy(is_second, state) => say_bad_copy(errors, *is_second, *state),
         Stop::NoSecondCopy => say(errors, b"fwenv: there is no second copy\n"),
         Stop::NoGoodCopy(first, second) => say_no_good_copy(errors, *first, *second),
         Stop::Defaults(path, fault, warning) => {
             say(errors, warning);
-            say_fault(alloc, errors, explains, path, *fault);
+            say_fault(errors, explains, path, *fault);
         }
         Stop::Misread(line) => say(errors, line),
         Stop::NotLocked(folder, reason) => say_not_locked(errors, folder, *reason),
@@ -70,17 +68,12 @@ fn say_stop<E: Write>(alloc: Global, errors: &mut E, explains: Explains, stop: &
 }
 
 /// Prints why a copy can't be read.
-fn say_copy<E: Write>(
-    alloc: Global,
-    errors: &mut E,
-    explains: Explains,
-    config: &Config,
-    fault: CopyFault,
-)
-    ensures { SaysLine (fault_line explains (device_of config.now fault.is_second) fault.fault) (E.contents errors.old) (E.contents errors.new) }
+fn say_copy<E: Write>(errors: &mut E, explains: Explains, config: &Config, fault: CopyFault)
+    ensures { AppendsFront (E.contents errors.old) (E.contents errors.new)
+        (fault_line explains (device_of config.now fault.is_second) fault.fault) }
 {
     let path = device_of(config, fault.is_second);
-    say_fault(alloc, errors, explains, path, fault.fault);
+    say_fault(errors, explains, path, fault.fault);
 }
 
 /// Prints that the copy that is asked for isn't good.

@@ -1,7 +1,7 @@
 //! The program: the tools and dry runs over the files that its arguments name. docs/tools.md and docs/dry-runs.md state
 //! the rules; fw_arguments reads the arguments, fw_files reads and writes the files.
 //!
-//! To read in this order: entry_point, greeting; halt, explains, fault_lines, halt_lines, tool_messages; subcommands,
+//! To read in this order: entry_point, greeting; halt, explains, fault_names, fault_lines, halt_lines, tool_messages; subcommands,
 //! task_work, printing, closing, hardware, session_run, script_source, script_work, check_rules, check_work, status_work,
 //! new_image, image_work, find_work, after_scripts, progress, boot_work.
 #![tactic(auto)]
@@ -14,6 +14,7 @@ mod closing;
 mod entry_point;
 mod explains;
 mod fault_lines;
+mod fault_names;
 mod find_work;
 mod greeting;
 mod halt;

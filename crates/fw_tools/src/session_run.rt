@@ -126,7 +126,7 @@ fn write_locked<X: System + AllocGlobal, D: Start, E: Write>(
     match lock_copies(rt, &source.config.first, locks, Hold::Alone, errors) {
         Err(stop) => {
             let halt = Halt::Files(stop);
-            say_halt(rt.alloc(), errors, Explains::Nothing, &halt);
+            say_halt(errors, Explains::Nothing, &halt);
             None
         }
         Ok(_locks) => write_back(

@@ -3,7 +3,6 @@ ghost use Rattle.std.specs.Prelude.{◌≡◌, MatchResult, option_map};
 ghost use Rattle.envimg_core.specs.declared.geometry.Order.{Order};
 ghost use Rattle.fw_engines.specs.CopyStatus.{file_status_of};
 ghost use Rattle.fw_arguments.specs.Report.{Copies, File, report_view};
-ghost use Rattle.fw_files.specs.Locks.{HasWaited};
 ghost use Rattle.fw_tools.specs.CopyReport.{HaltsAfterLocks, IsSurveyIn, PrintsReport, ReportsOn, found_at, found_in, found_view};
 
 use crate::halt::Halt;

@@ -8,13 +8,11 @@ use crate::halt::Halt;
 use crate::halt_lines::say_halt;
 use fw_engines::streams::say;
 use fw_engines::{OUT_OF_MEMORY, StreamFault, ToolEnd};
-use std::alloc::Global;
 use std::io::Write;
 
 /// The exit status that a subcommand came to; or it is reported why it ended before its work, and the status is that of one
 /// which `halted`.
 pub(crate) fn status_or_say<E: Write>(
-    alloc: Global,
     errors: &mut E,
     explains: Explains,
     outcome: Result<u8, Halt<'_>>,
@@ -26,7 +24,7 @@ pub(crate) fn status_or_say<E: Write>(
     match outcome {
         Ok(status) => status,
         Err(halt) => {
-            say_halt(alloc, errors, explains, &halt);
+            say_halt(errors, explains, &halt);
             halted
         }
     }
