@@ -1,8 +1,8 @@
 -- From the bytes of files to a session (docs/tools.md, "Subcommands over files").
-use Rattle.std.specs.Prelude.{◌≡◌, ◌⊎◌, ℕ, ◌==◌, ◌&&◌, Bool, true, false, not, if◌then◌else◌, List, [], ◌∷◌, ◌++◌, Option, Some, None, is_none, is_some, Ok, Err, codes, option_map}
+use Rattle.std.specs.Prelude.{◌≡◌, ◌⊎◌, ℕ, ◌==◌, ◌&&◌, Bool, true, false, not, if◌then◌else◌, List, [], ◌∷◌, ◌++◌, Option, Some, None, is_none, is_some, Ok, Err, codes, map, option_map}
 use Rattle.std.specs.List.{flat_map}
 use Rattle.std.specs.FinMap as env
-use Rattle.envcfg_core.specs.Entries.{Entry}
+use Rattle.envcfg_core.specs.Entries.{Entry, entry_view}
 use Rattle.envcfg_core.specs.Import.{import_of}
 use Rattle.envvars_core.specs.Variables.{Contents}
 use Rattle.envvars_core.specs.declared.refusals.Refusal.{Refusal}
@@ -23,6 +23,8 @@ use Rattle.fw_files.specs.BareLines.{bare_in}
 use Rattle.fw_files.specs.FileTexts.{Holds}
 use Rattle.fw_files.specs.Files.{IsTextAt}
 use Rattle.fw_files.specs.declared.copies.ReadCopy.{ReadCopy}
+use Rattle.fw_files.specs.declared.default_text.DefaultText.{DefaultText}
+use Rattle.fw_files.specs.declared.default_text.Parsed.{Parsed}
 use Rattle.fw_files.specs.declared.file_fault.FileFault.{FileFault}
 use Rattle.fw_files.specs.declared.file_fault.FileFault.TheVariants as file
 use Rattle.fw_files.specs.declared.source.Source.{Source}
@@ -104,11 +106,35 @@ AreEntriesIn form.Plain text entries = import_of (flat_map escaped_byte text) �
 AreEntriesIn form.Source text entries = source_of text ≡ Ok entries
 AreEntriesIn form.Initial text entries = import_of (closed_lines false text) ≡ Ok entries
 
--- the variables are the default environment of the entries of a text, of which none lacks its `=`, in this room
-abbrev pub AreDefaultsIn : TextForm → List ℕ → ℕ → Contents → Type 0
-AreDefaultsIn form text room vars =
-    (entries : List Entry) × AreEntriesIn form text entries × (bare_in form text entries ≡ None)
+-- the variables are the default environment, in this room, of these entries of a text; none lacks its `=`
+abbrev pub AreDefaultsBy : TextForm → List ℕ → List Entry → ℕ → Contents → Type 0
+AreDefaultsBy form text entries room vars =
+    AreEntriesIn form text entries × (bare_in form text entries ≡ None)
     × (written room env.empty entries ≡ Ok vars.env) × (vars.room ≡ room)
+
+-- of the text at a path
+abbrev pub AreDefaultsAt : Holds → (path : List ℕ) → TextForm → ℕ → Contents → Type 0
+AreDefaultsAt holds path form room vars =
+    (text : List ℕ) × IsTextAt holds path text
+    × ((entries : List Entry) × AreDefaultsBy form text entries room vars)
+
+-- the text for import that is kept: such a text itself, or lines as U-Boot's build prints them, each closed
+abbrev pub kept_text : TextForm → List ℕ → Option (List ℕ)
+kept_text form.Import text = Some text
+kept_text form.Initial text = Some (closed_lines false text)
+kept_text form text = None
+
+-- with its entries
+pub record KeptText : Type 0 where
+  pub text : List ℕ
+  pub entries : List Entry
+
+abbrev pub with_entries : List Entry → Option (List ℕ) → Option KeptText
+with_entries entries text = option_map (λ t. record { text = t; entries = entries }) text
+
+abbrev pub kept_view : Option DefaultText → Option KeptText
+kept_view kept =
+    option_map (λ k. record { text = k.text.items; entries = map entry_view k.entries.items }) kept
 
 -- an entry is refused, in its line, or memory ran out
 abbrev pub IsRefused : ℕ → List Entry → FileFault → Type 0
@@ -120,17 +146,30 @@ abbrev pub default_fault : ℕ → Refusal → FileFault
 default_fault line refusals.Memory = file.Memory
 default_fault line refused = file.Default line refused
 
--- of the text at a path
-abbrev pub AreDefaultsAt : Holds → (path : List ℕ) → TextForm → ℕ → Contents → Type 0
-AreDefaultsAt holds path form room vars = (text : List ℕ) × IsTextAt holds path text × AreDefaultsIn form text room vars
+-- a text that was parsed
+pub record IsParsed (form : TextForm) (text : List ℕ) (parsed : Parsed) : Type 0 where
+  pub entries : AreEntriesIn form text (map entry_view parsed.entries.items)
+  pub whole : bare_in form text (map entry_view parsed.entries.items) ≡ None
+  pub kept : option_map (λ t. t.items) parsed.text ≡ kept_text form text
+
+-- the variables of a text, and what is kept of it
+abbrev pub AreReadIn : TextForm → List ℕ → ℕ → Option KeptText → Contents → Type 0
+AreReadIn form text room kept vars =
+    (entries : List Entry) × AreDefaultsBy form text entries room vars
+    × (kept ≡ with_entries entries (kept_text form text))
+
+abbrev pub AreReadAt : Holds → (path : List ℕ) → TextForm → ℕ → Option KeptText → Contents → Type 0
+AreReadAt holds path form room kept vars =
+    (text : List ℕ) × IsTextAt holds path text × AreReadIn form text room kept vars
 
 -- those of a text if a path is given, else no variables
-abbrev pub AreDefaultsOfPath : Holds → ℕ → Option (List ℕ) → TextForm → Contents → Type 0
-AreDefaultsOfPath holds room None form vars = vars ≡ record { env = env.empty; room = room }
-AreDefaultsOfPath holds room (Some path) form vars = AreDefaultsAt holds path form room vars
+abbrev pub AreDefaultsOfPath : Holds → ℕ → Option (List ℕ) → TextForm → Option KeptText → Contents → Type 0
+AreDefaultsOfPath holds room None form kept vars =
+    (kept ≡ None) × (vars ≡ record { env = env.empty; room = room })
+AreDefaultsOfPath holds room (Some path) form kept vars = AreReadAt holds path form room kept vars
 
-abbrev pub AreDefaultsOf : Holds → ℕ → Defaults → Contents → Type 0
-AreDefaultsOf holds room d vars = AreDefaultsOfPath holds room d.path d.form vars
+abbrev pub AreDefaultsOf : Holds → ℕ → Defaults → Option KeptText → Contents → Type 0
+AreDefaultsOf holds room d kept vars = AreDefaultsOfPath holds room d.path d.form kept vars
 
 -- a copy has to be good, and no copy is
 abbrev pub lacks_copy : Defaults → Choice → Bool

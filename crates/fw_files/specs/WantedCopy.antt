@@ -1,5 +1,5 @@
 -- One copy that is asked for by its number (docs/tools.md, "Subcommands over files").
-use Rattle.std.specs.Prelude.{◌≡◌, ℕ, Bool, true, false, List, Option, Some, None, option_map, unwrap_or, ⊤}
+use Rattle.std.specs.Prelude.{◌≡◌, ℕ, Bool, true, false, List, Option, Some, None, option_map, unwrap_or}
 use Rattle.envimg_core.specs.Geometry.{Shape}
 use Rattle.envimg_core.specs.State.{state_of}
 use Rattle.envimg_core.specs.declared.state.CopyState.{CopyState}
@@ -23,10 +23,10 @@ refusal_of First shape first second = unless_good false (state_of shape first)
 refusal_of Second shape first None = Some NoSecondCopy
 refusal_of Second shape first (Some second) = unless_good true (state_of shape second)
 
--- that is reported, or memory ran out
+-- that is reported; if it can be taken, memory ran out
 abbrev pub IsRefusal : Option Stop → Stop → Type 0
-IsRefusal refusal Memory = ⊤
-IsRefusal refusal stop = refusal ≡ Some stop
+IsRefusal None stop = stop ≡ Memory
+IsRefusal (Some refusal) stop = stop ≡ refusal
 
 -- the copies over which a session is opened: the one that is asked for is in the place of each
 abbrev pub first_for : WantedCopy → (first : List ℕ) → (second : Option (List ℕ)) → List ℕ

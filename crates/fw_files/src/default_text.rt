@@ -1,24 +1,47 @@
 //! The default environment of a session: which text it is, and its variables.
-ghost use Rattle.std.specs.Prelude.{◌≡◌, ◌≤◌, ◌++◌, false, IfErr, IfOk, Ok, map};
+ghost use Rattle.std.specs.Prelude.{◌≡◌, ◌≤◌, false, IfErr, IfOk, None, Ok, OnOk, is_none, map, option_map};
 ghost use Rattle.std.specs.FinMap as env;
-ghost use Rattle.std.specs.List.{flat_map};
 ghost use Rattle.envcfg_core.specs.Entries.{entry_view};
-ghost use Rattle.envcfg_core.specs.Import.{import_of};
 ghost use Rattle.fw_arguments.specs.Calls.{defaults_view};
 ghost use Rattle.fw_engines.specs.Defaults.{written};
 ghost use Rattle.fw_files.specs.Stops.{IsAbout};
-ghost use Rattle.fw_files.specs.Source.{AreDefaultsAt, AreDefaultsIn, AreDefaultsOf, AreEntriesIn, IsFound, IsRefused, closed_lines, closing_byte, default_fault, escaped_byte, is_escape, takes_initial};
+ghost use Rattle.fw_files.specs.BareLines.{bare_in};
+ghost use Rattle.fw_files.specs.Source.{AreDefaultsAt, AreDefaultsOf, AreReadAt, AreReadIn, IsFound, IsParsed, IsRefused, default_fault, kept_view, takes_initial, with_entries};
 
 use crate::bare_lines::bare_in;
 use crate::file_fault::FileFault;
 use crate::files::{import_from, read_text, source_from};
+use crate::rewritten_text::{closed, escaped};
 use crate::stop::Stop;
 use crate::system::System;
 use envcfg_core::TextEntry;
 use envvars_core::{Refusal, Vars};
 use fw_arguments::{Defaults, GivenText, TextForm};
 use fw_engines::defaults;
-use std::alloc::{AllocError, Global};
+use std::alloc::Global;
+
+/// A text for import, and its entries.
+#[derive(Drop)]
+pub struct DefaultText {
+    /// The text that was parsed.
+    pub text: Vec<u8>,
+    /// Its entries.
+    pub entries: Vec<TextEntry>,
+}
+
+/// The variables of a default environment, and its text, if that is one for import.
+#[derive(Drop)]
+pub(crate) struct ReadDefaults {
+    pub vars: Vars,
+    pub text: Option<DefaultText>,
+}
+
+/// The text that is kept of one that was parsed, and its entries.
+#[derive(Drop)]
+struct Parsed {
+    text: Option<Vec<u8>>,
+    entries: Vec<TextEntry>,
+}
 
 /// The default environment of a board's build.
 const INITIAL_ENVIRONMENT: &str = "/etc/u-boot-initial-env";
@@ -55,12 +78,17 @@ pub(crate) fn given_defaults<X: System + AllocGlobal>(
     rt: &X,
     room: u32,
     asked: &Defaults<'_>,
-) -> Result<Vars, FileFault>
+) -> Result<ReadDefaults, FileFault>
     requires { 1 ≤ room }
-    ensures { IfOk result (AreDefaultsOf (X.holds rt.now) room (defaults_view asked.now)) }
+    ensures read { IfOk result
+        (λ r. AreDefaultsOf (X.holds rt.now) room (defaults_view asked.now) (kept_view r.text) r.vars) }
+    ensures at_fault { IfErr result (λ _. is_none asked.now.path ≡ false) }
 {
     match asked.path {
-        None => Ok(Vars::empty(rt.alloc(), room)),
+        None => Ok(ReadDefaults {
+            vars: Vars::empty(rt.alloc(), room),
+            text: None,
+        }),
         Some(path) => read_default(rt, room, path, asked.form),
     }
 }
@@ -76,7 +104,7 @@ pub fn read_variables<'a, X: System + AllocGlobal>(
     ensures stopped { IfErr result (IsAbout text.entry.path.now) }
 {
     match read_default(rt, room, text.path, text.form) {
-        Ok(vars) => Ok(vars),
+        Ok(read) => Ok(read.vars),
         Err(fault) => Err(Stop::File(text.path, fault)),
     }
 }
@@ -87,23 +115,41 @@ fn read_default<X: System + AllocGlobal>(
     room: u32,
     path: &str,
     form: TextForm,
-) -> Result<Vars, FileFault>
+) -> Result<ReadDefaults, FileFault>
     requires { 1 ≤ room }
-    ensures { IfOk result (AreDefaultsAt (X.holds rt.now) path.now form room) }
+    ensures { IfOk result (λ r. AreReadAt (X.holds rt.now) path.now form room (kept_view r.text) r.vars) }
 {
     let text = read_text(rt, path)?;
-    default_from(rt.alloc(), room, form, &text)
+    default_from(rt.alloc(), room, form, text)
 }
 
 /// The default environment of a text.
-fn default_from(alloc: Global, room: u32, form: TextForm, text: &[u8]) -> Result<Vars, FileFault>
+fn default_from(
+    alloc: Global,
+    room: u32,
+    form: TextForm,
+    text: Vec<u8>,
+) -> Result<ReadDefaults, FileFault>
     requires { 1 ≤ room }
-    ensures { IfOk result (AreDefaultsIn form text.now room) }
+    ensures { IfOk result (λ r. AreReadIn form text.items room (kept_view r.text) r.vars) }
 {
-    let entries = entries_in(alloc, form, text)?;
-    match bare_in(form, text, &entries) {
-        None => written_in(alloc, room, &entries),
-        Some(line) => Err(FileFault::Bare(line)),
+    let parsed = parsed_in(alloc, form, text)?;
+    let vars = written_in(alloc, room, &parsed.entries)?;
+    Ok(ReadDefaults {
+        vars,
+        text: kept(parsed),
+    })
+}
+
+/// What is kept of a text that was parsed.
+fn kept(parsed: Parsed) -> Option<DefaultText>
+    ensures { kept_view result
+        ≡ with_entries (map entry_view parsed.entries.items) (option_map (λ t. t.items) parsed.text) }
+{
+    let Parsed { text, entries } = parsed;
+    match text {
+        Some(text) => Some(DefaultText { text, entries }),
+        None => None,
     }
 }
 
@@ -130,88 +176,51 @@ fn default_fault(line: usize, refusal: Refusal) -> FileFault
     }
 }
 
-/// The entries of a text in this form.
-fn entries_in(alloc: Global, form: TextForm, text: &[u8]) -> Result<Vec<TextEntry>, FileFault>
-    ensures { IfOk result (λ entries. AreEntriesIn form text.now (map entry_view entries.items)) }
+/// A text in this form, parsed.
+fn parsed_in(alloc: Global, form: TextForm, text: Vec<u8>) -> Result<Parsed, FileFault>
+    ensures { IfOk result (IsParsed form text.items) }
 {
     match form {
-        TextForm::Import => import_from(alloc, text),
-        TextForm::Plain => entries_of_plain(alloc, text),
-        TextForm::Source => source_from(alloc, text),
-        TextForm::Initial => entries_of_initial(alloc, text),
+        TextForm::Import => {
+            let entries = import_from(alloc, &text)?;
+            unless_bare(form, &text, &entries)?;
+            Ok(Parsed {
+                text: Some(text),
+                entries,
+            })
+        }
+        TextForm::Initial => {
+            let closed = closed(alloc, &text)?;
+            let entries = import_from(alloc, &closed)?;
+            unless_bare(form, &text, &entries)?;
+            Ok(Parsed {
+                text: Some(closed),
+                entries,
+            })
+        }
+        TextForm::Plain => {
+            let entries = import_from(alloc, &escaped(alloc, &text)?)?;
+            Ok(Parsed {
+                text: None,
+                entries,
+            })
+        }
+        TextForm::Source => {
+            let entries = source_from(alloc, &text)?;
+            Ok(Parsed {
+                text: None,
+                entries,
+            })
+        }
     }
 }
 
-/// The entries of plain lines.
-fn entries_of_plain(alloc: Global, text: &[u8]) -> Result<Vec<TextEntry>, FileFault>
-    ensures { IfOk result (λ entries. import_of (flat_map escaped_byte text.now) ≡ Ok (map entry_view entries.items)) }
+/// Looks that no entry lacks its `=`, as an environment can't have it.
+fn unless_bare(form: TextForm, text: &[u8], entries: &[TextEntry]) -> Result<(), FileFault>
+    ensures { OnOk result (bare_in form text.now (map entry_view entries.now) ≡ None) }
 {
-    match escaped(alloc, text) {
-        Ok(text) => import_from(alloc, &text),
-        Err(_) => Err(FileFault::Memory),
+    match bare_in(form, text, entries) {
+        None => Ok(()),
+        Some(line) => Err(FileFault::Bare(line)),
     }
-}
-
-/// A text with each backslash escaped.
-fn escaped(alloc: Global, text: &[u8]) -> Result<Vec<u8>, AllocError>
-    ensures { IfOk result (λ e. e.items ≡ flat_map escaped_byte text.now) }
-{
-    let mut escaped = Vec::new(alloc);
-    for byte in text {
-        push_escaped(&mut escaped, *byte)?;
-    }
-    Ok(escaped)
-}
-
-/// One byte of it.
-fn push_escaped(escaped: &mut Vec<u8>, byte: u8) -> Result<(), AllocError>
-    ensures { IfOk result (λ _. escaped.new.items ≡ escaped.old.items ++ escaped_byte byte) }
-{
-    if byte == b'\\' {
-        escaped.push(byte)?;
-    }
-    escaped.push(byte)?;
-    Ok(())
-}
-
-/// The entries of lines as U-Boot's build prints them.
-fn entries_of_initial(alloc: Global, text: &[u8]) -> Result<Vec<TextEntry>, FileFault>
-    ensures { IfOk result (λ entries. import_of (closed_lines false text.now) ≡ Ok (map entry_view entries.items)) }
-{
-    match closed(alloc, text) {
-        Ok(text) => import_from(alloc, &text),
-        Err(_) => Err(FileFault::Memory),
-    }
-}
-
-/// A text whose lines all end: a backslash that would make the newline after it literal has one more before it.
-#[tactic(auto, unfolding(crate::specs::Source::closed_lines))]
-fn closed(alloc: Global, text: &[u8]) -> Result<Vec<u8>, AllocError>
-    ensures { IfOk result (λ c. c.items ≡ closed_lines false text.now) }
-{
-    let mut closed = Vec::new(alloc);
-    let mut escaped = false;
-    for byte in text {
-        push_closing(&mut closed, escaped, *byte)?;
-        escaped = is_escape(escaped, *byte);
-    }
-    Ok(closed)
-}
-
-/// One byte of it, by whether a backslash makes it literal.
-fn push_closing(closed: &mut Vec<u8>, escaped: bool, byte: u8) -> Result<(), AllocError>
-    ensures { IfOk result (λ _. closed.new.items ≡ closed.old.items ++ closing_byte escaped byte) }
-{
-    if escaped && byte == b'\n' {
-        closed.push(b'\\')?;
-    }
-    closed.push(byte)?;
-    Ok(())
-}
-
-/// Whether a byte makes the next one literal.
-fn is_escape(escaped: bool, byte: u8) -> bool
-    ensures { result ≡ is_escape escaped byte }
-{
-    byte == b'\\' && !escaped
 }

@@ -3,8 +3,8 @@
 //! nothing is printed here but that a lock is waited for. docs/tools.md states the rules.
 //!
 //! To read in this order: system, reasons, foreign_texts, file_fault, stop, files, known_names, new_file; waiting,
-//! device_access, lock_file, copies, source, wanted_source, bare_lines, default_text, misread_copies, opening,
-//! opened_devices, changed_copies, surveyed_copies.
+//! device_access, lock_file, copies, source, wanted_source, bare_lines, rewritten_text, default_text, misread_copies,
+//! opening, opened_devices, changed_copies, surveyed_copies.
 #![tactic(auto)]
 
 mod bare_lines;
@@ -22,6 +22,7 @@ mod new_file;
 mod opened_devices;
 mod opening;
 mod reasons;
+mod rewritten_text;
 mod source;
 mod stop;
 mod surveyed_copies;
@@ -31,7 +32,7 @@ mod wanted_source;
 
 pub use changed_copies::{device_of, warning_of_write, write_back};
 pub use copies::ReadCopy;
-pub use default_text::read_variables;
+pub use default_text::{DefaultText, read_variables};
 pub use file_fault::FileFault;
 pub use files::{
     read_board, read_dump, read_entries, read_file, read_set_script, read_stand_in_file,
@@ -42,7 +43,7 @@ pub use known_names::read_known;
 pub use lock_file::{LockedFiles, Locks, lock_copies};
 pub use new_file::write_file;
 pub use opened_devices::CopyFault;
-pub use opening::{open, warning_of};
+pub use opening::{Opened, open, warning_of};
 pub use reasons::Reason;
 pub use source::{Source, erased, read_config, read_source};
 pub use stop::Stop;

@@ -1,5 +1,7 @@
 //! The lock files that U-Boot's tools and libubootenv lock too.
-ghost use Rattle.fw_files.specs.Locks.{HasWaited};
+ghost use Rattle.std.specs.Prelude.{IfErr};
+ghost use Rattle.fw_arguments.specs.Calls.{In, Usual, locks_view};
+ghost use Rattle.fw_files.specs.Locks.{HasWaited, IsLockStop};
 
 use crate::device_access::{is_pipe, lock_device};
 use crate::reasons::Reason;
@@ -67,7 +69,8 @@ pub fn lock_copies<'a, X: System + AllocGlobal, E: Write>(
     hold: Hold,
     errors: &mut E,
 ) -> Result<Locks<X::File>, Stop<'a>>
-    ensures { HasWaited (E.contents errors.old) (E.contents errors.new) }
+    ensures waited { HasWaited (E.contents errors.old) (E.contents errors.new) }
+    ensures stopped { IfErr result (IsLockStop (locks_view files.entry)) }
 {
     let locks = lock_once(rt, place, files, hold, files_hold(files, hold), errors)?;
     if is_in_place(rt, place, &locks.device) {
@@ -106,7 +109,8 @@ fn lock_once<'a, X: System + AllocGlobal, E: Write>(
     files_hold: Hold,
     errors: &mut E,
 ) -> Result<Locks<X::File>, Stop<'a>>
-    ensures { HasWaited (E.contents errors.old) (E.contents errors.new) }
+    ensures waited { HasWaited (E.contents errors.old) (E.contents errors.new) }
+    ensures stopped { IfErr result (IsLockStop (locks_view files.entry)) }
 {
     let makes = device_hold == Hold::Alone;
     let device = lock_device(rt, place, device_hold, errors);
@@ -122,7 +126,8 @@ fn lock_files<'a, X: System + AllocGlobal, E: Write>(
     hold: Hold,
     errors: &mut E,
 ) -> Result<LockedFiles<X::File>, Stop<'a>>
-    ensures { HasWaited (E.contents errors.old) (E.contents errors.new) }
+    ensures waited { HasWaited (E.contents errors.old) (E.contents errors.new) }
+    ensures stopped { IfErr result (IsLockStop (locks_view files.entry)) }
 {
     match files {
         LockFiles::Nothing => Ok(LockedFiles {
@@ -142,7 +147,8 @@ fn lock_in<'a, X: System + AllocGlobal, E: Write>(
     hold: Hold,
     errors: &mut E,
 ) -> Result<LockedFiles<X::File>, Stop<'a>>
-    ensures { HasWaited (E.contents errors.old) (E.contents errors.new) }
+    ensures waited { HasWaited (E.contents errors.old) (E.contents errors.new) }
+    ensures stopped { IfErr result (IsLockStop (In folder.now)) }
 {
     let Ok(path) = format!(in rt.alloc(); "{folder}/fw_printenv.lock") else {
         return Err(Stop::Memory);
@@ -163,7 +169,8 @@ fn lock_usual<X: System, E: Write>(
     hold: Hold,
     errors: &mut E,
 ) -> Result<LockedFiles<X::File>, Stop<'static>>
-    ensures { HasWaited (E.contents errors.old) (E.contents errors.new) }
+    ensures waited { HasWaited (E.contents errors.old) (E.contents errors.new) }
+    ensures stopped { IfErr result (IsLockStop Usual) }
 {
     let first = match lock_at(rt, RUN, need, hold, errors) {
         Ok(first) => first,

@@ -1,13 +1,15 @@
 //! The session over the copies that were read.
-ghost use Rattle.std.specs.Prelude.{◌≡◌, false, true, IfOk, OnOk};
-ghost use Rattle.env_session.specs.Session.{bytes_of, opened, opening_choice};
+ghost use Rattle.std.specs.Prelude.{◌≡◌, false, true, IfErr, IfOk, None, OnOk, is_none};
+ghost use Rattle.envimg_core.specs.declared.choice.Choice.TheVariants.{Neither};
+ghost use Rattle.fw_files.specs.declared.file_fault.FileFault.TheVariants.{Memory};
+ghost use Rattle.env_session.specs.Session.{bytes_of, opened};
 ghost use Rattle.fw_arguments.specs.Calls.{defaults_view};
 ghost use Rattle.fw_arguments.specs.GivenTexts.{is_plain};
-ghost use Rattle.fw_files.specs.Misread.{Spares};
-ghost use Rattle.fw_files.specs.Opening.{IsOpened, IsOpenedWith, OpensOver, no_good_copy};
-ghost use Rattle.fw_files.specs.Source.{lacks_copy, second_bytes, warned};
+ghost use Rattle.fw_files.specs.Misread.{IsMisreadStop};
+ghost use Rattle.fw_files.specs.Opening.{IsOpened, IsOpenedWith, OpensOver, SparesIn, StopsOpening, StopsWith, current_of, is_silent, no_good_copy_in};
+ghost use Rattle.fw_files.specs.Source.{kept_view, lacks_copy, second_bytes, warned};
 
-use crate::default_text::{found_defaults, given_defaults};
+use crate::default_text::{DefaultText, found_defaults, given_defaults};
 use crate::file_fault::FileFault;
 use crate::misread_copies::spare_misread;
 use crate::source::Source;
@@ -19,6 +21,15 @@ use envvars_core::Vars;
 use fw_arguments::Defaults;
 use std::alloc::{AllocError, Global};
 
+/// A session just opened, and the text of its default environment, if that was taken and is one for import.
+#[derive(Drop)]
+pub struct Opened {
+    /// The session.
+    pub session: Session,
+    /// The text as it was parsed, and its entries.
+    pub text: Option<DefaultText>,
+}
+
 /// The session over these copies, with the default environment of a text, or an empty one; a text of plain lines is read
 /// only if neither copy is good. It isn't opened if a copy has to be good and none is, or if copies are to be spared
 /// (`spares`) and one of them is good in another way than the configuration has it.
@@ -27,8 +38,9 @@ pub fn open<'a, X: System + AllocGlobal>(
     source: &Source,
     asked: &Defaults<'a>,
     spares: bool,
-) -> Result<Session, Stop<'a>>
-    ensures { IfOk result (IsOpened (X.holds rt.now) source.now (defaults_view asked.now) spares) }
+) -> Result<Opened, Stop<'a>>
+    ensures opened { IfOk result (IsOpened (X.holds rt.now) source.now (defaults_view asked.now) spares) }
+    ensures stopped { IfErr result (StopsOpening source.now (defaults_view asked.now) spares) }
 {
     if asked.form.is_plain() {
         open_plain(rt, source, asked, spares)
@@ -43,15 +55,16 @@ fn open_plain<'a, X: System + AllocGlobal>(
     source: &Source,
     asked: &Defaults<'a>,
     spares: bool,
-) -> Result<Session, Stop<'a>>
+) -> Result<Opened, Stop<'a>>
     requires { is_plain asked.now.form ≡ true }
-    ensures { IfOk result (IsOpened (X.holds rt.now) source.now (defaults_view asked.now) spares) }
+    ensures opened { IfOk result (IsOpened (X.holds rt.now) source.now (defaults_view asked.now) spares) }
+    ensures stopped { IfErr result (StopsOpening source.now (defaults_view asked.now) spares) }
 {
     let none = Vars::empty(rt.alloc(), source.geometry.room());
     let session = start(rt.alloc(), source, none)?;
     match session.current() {
-        Choice::First => Ok(session),
-        Choice::Second => Ok(session),
+        Choice::First => Ok(without_text(session)),
+        Choice::Second => Ok(without_text(session)),
         Choice::Neither => {
             let found = found_defaults(rt, *asked);
             open_with(rt, source, &found, spares)
@@ -65,17 +78,29 @@ fn open_with<'a, X: System + AllocGlobal>(
     source: &Source,
     asked: &Defaults<'a>,
     spares: bool,
-) -> Result<Session, Stop<'a>>
-    ensures { IfOk result (IsOpenedWith (X.holds rt.now) source.now (defaults_view asked.now) spares) }
+) -> Result<Opened, Stop<'a>>
+    ensures opened { IfOk result (IsOpenedWith (X.holds rt.now) source.now (defaults_view asked.now) spares) }
+    ensures stopped { IfErr result
+        (StopsWith source.now (current_of source.now) (defaults_view asked.now) spares) }
 {
     match session_over(rt, source, asked) {
-        Ok(session) => accepted(rt, source, asked, spares, session),
+        Ok(opened) => accepted(rt, source, asked, spares, opened),
         Err(fault) => {
             let current = current_of(source);
-            let is_silent = asked.whole | lacks_copy(asked, current);
-            let warning = warning_of(is_silent, current);
+            let warning = warning_of(is_silent(asked, current), current);
             Err(Stop::Defaults(asked.path.unwrap_or(""), fault, warning))
         }
+    }
+}
+
+/// A session for which no text was taken.
+fn without_text(session: Session) -> Opened
+    ensures session { result.session ≡ session }
+    ensures text { result.text ≡ None }
+{
+    Opened {
+        session,
+        text: None,
     }
 }
 
@@ -85,16 +110,20 @@ fn accepted<X: System + AllocGlobal>(
     source: &Source,
     asked: &Defaults<'_>,
     spares: bool,
-    session: Session,
-) -> Result<Session, Stop<'static>>
-    ensures { IfOk result (λ accepted. (accepted ≡ session) × (lacks_copy (defaults_view asked.now) session.now.current ≡ false)
-        × Spares session.now.current spares source.now.geometry source.now.first.bytes.items (second_bytes source.now.second)) }
+    opened: Opened,
+) -> Result<Opened, Stop<'static>>
+    ensures opened { IfOk result (λ accepted. (accepted ≡ opened)
+        × (lacks_copy (defaults_view asked.now) opened.session.now.current ≡ false)
+        × SparesIn spares opened.session.now.current source.now) }
+    ensures stopped { IfErr result
+        (StopsWith source.now opened.session.now.current (defaults_view asked.now) spares) }
 {
-    spare(rt, source, spares, session.current())?;
-    if lacks_copy(asked, session.current()) {
+    let current = opened.session.current();
+    spare(rt, source, spares, current)?;
+    if lacks_copy(asked, current) {
         return Err(no_good_copy(source));
     }
-    Ok(session)
+    Ok(opened)
 }
 
 /// Looks whether the copies may be written over, if they are to be spared.
@@ -104,7 +133,9 @@ fn spare<X: System + AllocGlobal>(
     spares: bool,
     current: Choice,
 ) -> Result<(), Stop<'static>>
-    ensures { OnOk result (Spares current spares source.now.geometry source.now.first.bytes.items (second_bytes source.now.second)) }
+    ensures spared { OnOk result (SparesIn spares current source.now) }
+    ensures stopped { IfErr result (λ stop. (current ≡ Neither) × (spares ≡ true)
+        × IsMisreadStop source.now.geometry source.now.first.bytes.items (second_bytes source.now.second) stop) }
 {
     match current {
         Choice::First => Ok(()),
@@ -129,9 +160,16 @@ fn lacks_copy(asked: &Defaults<'_>, current: Choice) -> bool
     }
 }
 
+/// Whether no warning that no copy is good is due: it isn't missed, or is an error.
+fn is_silent(asked: &Defaults<'_>, current: Choice) -> bool
+    ensures { result ≡ is_silent (defaults_view asked.now) current }
+{
+    asked.whole || lacks_copy(asked, current)
+}
+
 /// What is wrong with each copy.
 fn no_good_copy(source: &Source) -> Stop<'static>
-    ensures { result ≡ no_good_copy source.now.geometry source.now.first.bytes.items (second_bytes source.now.second) }
+    ensures { result ≡ no_good_copy_in source.now }
 {
     let second = match &source.second {
         None => None,
@@ -145,11 +183,15 @@ fn session_over<X: System + AllocGlobal>(
     rt: &X,
     source: &Source,
     asked: &Defaults<'_>,
-) -> Result<Session, FileFault>
-    ensures { IfOk result (OpensOver (X.holds rt.now) source.now (defaults_view asked.now)) }
+) -> Result<Opened, FileFault>
+    ensures opens { IfOk result
+        (λ o. OpensOver (X.holds rt.now) source.now (defaults_view asked.now) (kept_view o.text) o.session) }
+    ensures at_fault { IfErr result (λ fault. is_none asked.now.path ≡ true → fault ≡ Memory) }
 {
     let given = given_defaults(rt, source.geometry.room(), asked)?;
-    Ok(start(rt.alloc(), source, given)?)
+    let session = start(rt.alloc(), source, given.vars)?;
+    let text = given.text;
+    Ok(Opened { session, text })
 }
 
 /// Starts the session over copies of the bytes that were read.
@@ -184,7 +226,7 @@ fn copies_of(alloc: Global, source: &Source) -> Result<Stored, AllocError>
 
 /// Which copy is current.
 fn current_of(source: &Source) -> Choice
-    ensures { result ≡ opening_choice source.now.geometry source.now.first.bytes.items (second_bytes source.now.second) }
+    ensures { result ≡ current_of source.now }
 {
     let second = match &source.second {
         None => CopyState::BadLength,

@@ -4,7 +4,7 @@ ghost use Rattle.envcfg_core.specs.Config.{config_of, config_view};
 ghost use Rattle.fw_files.specs.Copies.{overlap};
 ghost use Rattle.fw_files.specs.Opening.{IsErased};
 ghost use Rattle.fw_files.specs.Source.{AreSettingsAt, IsSourceOf};
-ghost use Rattle.fw_files.specs.Stops.{IsAbout};
+ghost use Rattle.fw_files.specs.Stops.{IsAbout, IsCopyStop};
 ghost use Rattle.fw_files.specs.declared.stop.Stop.TheVariants.{Memory};
 
 use crate::copies::{ReadCopy, read_copy, share_a_byte};
@@ -51,7 +51,9 @@ pub fn read_source<X: Files + AllocGlobal>(
     order: Order,
     config: Config,
 ) -> Result<Source, Stop<'static>>
-    ensures { IfOk result (λ source. IsSourceOf order config source × (overlap source.config source.first source.second ≡ false)) }
+    ensures read { IfOk result
+        (λ source. IsSourceOf order config source × (overlap source.config source.first source.second ≡ false)) }
+    ensures stopped { IfErr result (IsCopyStop config) }
 {
     let Some(geometry) = Geometry::with_order(config.layout, config.size, order) else {
         // never: a configuration has no size that its layout refuses

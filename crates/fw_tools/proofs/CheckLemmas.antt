@@ -10,6 +10,7 @@ use Rattle.hush_commands.specs.Hardware.{Hardware}
 use Rattle.envimg_core.specs.Environment.{Environment}
 use Rattle.finding_kinds.specs.Choices.{Choice}
 use Rattle.fw_check.specs.Checking.{PrintsReport, is_failed, texts_of, with_whole}
+use Rattle.fw_check.specs.EntryPlaces.{EnvironmentText}
 use Rattle.fw_check.specs.Called.{Given, given_with}
 use Rattle.fw_check.specs.FileChecks.{Checks, ChecksFiles, FileScript, is_alone}
 use Rattle.fw_check.specs.Findings.{Report}
@@ -49,9 +50,9 @@ texts_small end old new texts small p = by_fault end.fault p
 prints_small : (old new : Writers) (report : Report) (end : ToolEnd) → PrintsReport old new report end → end.status ≤ 1
 prints_small old new report end p = texts_small end old new (texts_of report) (report_small report) p
 
-checks_small : (given : Given) (env : Environment) (choice : Choice) (names : List (List ℕ)) (scripts : List FileScript) (old new : Writers) (end : ToolEnd) → Checks given env choice names scripts old new end → end.status ≤ 1
-checks_small given env choice names scripts old new end (inl (report, comes, prints)) = prints_small old new (with_whole (is_alone scripts) env report) end prints
-checks_small given env choice names scripts old new end (inr lacks) = omega (arith, lacks.2)
+checks_small : (given : Given) (env : Environment) (file : Option EnvironmentText) (choice : Choice) (names : List (List ℕ)) (scripts : List FileScript) (old new : Writers) (end : ToolEnd) → Checks given env file choice names scripts old new end → end.status ≤ 1
+checks_small given env file choice names scripts old new end (inl (report, comes, prints)) = prints_small old new (with_whole (is_alone scripts) env file report) end prints
+checks_small given env file choice names scripts old new end (inr lacks) = omega (arith, lacks.2)
 
 file_checks_small : (given : Given) (choice : Choice) (scripts : List FileScript) (old new : Writers) (end : ToolEnd) → ChecksFiles given choice scripts old new end → end.status ≤ 1
 file_checks_small given choice scripts old new end (inl (report, comes, prints)) = prints_small old new report end prints
@@ -64,25 +65,25 @@ status_small end small = by_fault end.fault
     by_fault None = omega (arith, small)
     by_fault (Some f) = omega arith
 
-pub check_small : (holds : Holds) (check : EnvironmentCheck) (session : Held) (old new : Writers) (status : ℕ) → ChecksOver holds check session old new status → status ≤ unchecked
-check_small holds check session old new status (h, known, scripts, read, named, paths, (end, said, checks, says, ended)) =
-    omega (arith, ended, status_small end (checks_small (given_with check.shell h known) session.now.env check.choice check.names scripts old (record { output = new.output; errors = said }) end checks))
+pub check_small : (holds : Holds) (check : EnvironmentCheck) (text : Option EnvironmentText) (session : Held) (old new : Writers) (status : ℕ) → ChecksOver holds check text session old new status → status ≤ unchecked
+check_small holds check text session old new status (h, known, scripts, read, named, paths, (end, said, checks, says, ended)) =
+    omega (arith, ended, status_small end (checks_small (given_with check.shell h known) session.now.env text check.choice check.names scripts old (record { output = new.output; errors = said }) end checks))
 
 pub file_check_small : (holds : Holds) (check : FileCheck) (old new : Writers) (status : ℕ) → ChecksFile holds check old new status → status ≤ unchecked
 file_check_small holds check old new status (h, scripts, given, read, (end, said, checks, says, ended)) =
     omega (arith, ended, status_small end (file_checks_small (given_with check.shell h []) check.choice scripts old (record { output = new.output; errors = said }) end checks))
 
 -- a check by these rules whose environment and names are these
-pub checks-over : (holds : Holds) (check : EnvironmentCheck) (session : Held) (old new : Writers) (status : ℕ) (h : Option Hardware) (known : List (List ℕ)) (given : Given) (env : Environment) (names : List (List ℕ)) (scripts given_scripts : List FileScript) (end : ToolEnd) (said : Option (List ℕ)) →
+pub checks-over : (holds : Holds) (check : EnvironmentCheck) (text : Option EnvironmentText) (session : Held) (old new : Writers) (status : ℕ) (h : Option Hardware) (known : List (List ℕ)) (given : Given) (env : Environment) (names : List (List ℕ)) (scripts given_scripts : List FileScript) (end : ToolEnd) (said : Option (List ℕ)) →
     IsHardwareGiven holds check.stand_ins check.board h → AreKnownOf holds check.known known → AreScriptsAt holds check.scripts given_scripts →
-    Checks given env check.choice names scripts old (record { output = new.output; errors = said }) end → env ≡ session.now.env →
-    given ≡ given_with check.shell h known → names ≡ check.names → scripts ≡ given_scripts → status ≡ check_status end → Says end.fault said new.errors → ChecksOver holds check session old new status
-checks-over holds check session old new status h known given env names scripts given_scripts end said read named paths checks same_env same_rules same_names same_scripts ended says =
+    Checks given env text check.choice names scripts old (record { output = new.output; errors = said }) end → env ≡ session.now.env →
+    given ≡ given_with check.shell h known → names ≡ check.names → scripts ≡ given_scripts → status ≡ check_status end → Says end.fault said new.errors → ChecksOver holds check text session old new status
+checks-over holds check text session old new status h known given env names scripts given_scripts end said read named paths checks same_env same_rules same_names same_scripts ended says =
     let after : Writers = record { output = new.output; errors = said } in
-    let one = subst (λ e. Checks given e check.choice names scripts old after end) same_env checks in
-    let two = subst (λ g. Checks g session.now.env check.choice names scripts old after end) same_rules one in
-    let three = subst (λ ns. Checks (given_with check.shell h known) session.now.env check.choice ns scripts old after end) same_names two in
-    let four = subst (λ ss. Checks (given_with check.shell h known) session.now.env check.choice check.names ss old after end) same_scripts three in
+    let one = subst (λ e. Checks given e text check.choice names scripts old after end) same_env checks in
+    let two = subst (λ g. Checks g session.now.env text check.choice names scripts old after end) same_rules one in
+    let three = subst (λ ns. Checks (given_with check.shell h known) session.now.env text check.choice ns scripts old after end) same_names two in
+    let four = subst (λ ss. Checks (given_with check.shell h known) session.now.env text check.choice check.names ss old after end) same_scripts three in
     (h, known, given_scripts, read, named, paths, (end, said, four, says, ended))
 
 -- the same of a check of scripts in files

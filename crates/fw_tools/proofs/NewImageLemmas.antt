@@ -1,6 +1,6 @@
 -- What a save over erased copies leaves, and the status of a new image.
 use Rattle.std.specs.Prelude.{MatchResult}
-use Rattle.std.proofs.Common.{Bor, option_map, ◌≡◌, ◌≤◌, ℕ, Bool, List, Option, Some, None, Result, Ok, Err, inl, inr, arith, refl, sym, ap, ◌∙◌, subst}
+use Rattle.std.proofs.Common.{Bor, option_map, ◌≡◌, ◌≤◌, ℕ, Bool, List, Option, Some, None, Result, Ok, Err, arith, refl, sym, ap, ◌∙◌, subst}
 use Rattle.env_session.specs.Session.{Held, State, bytes_of, opened, opening_choice, opening_env, saved, saved_flag, saved_side, with_copy}
 use Rattle.env_session.specs.declared.session.Stored.{Stored}
 use Rattle.envimg_core.specs.Geometry.{Shape, room_of}

@@ -1,6 +1,6 @@
 -- The status of power-ons.
-use Rattle.std.proofs.Common.{◌≡◌, ℕ, ◌≤◌, Bool, true, false, List, [], ◌∷◌, ◌++◌, Option, Some, None, Result, Ok, Err, inl, inr, arith, subst, sym, ◌∙◌}
-use Rattle.std.specs.Prelude.{if◌then◌else◌, nat_lt, IfOk, MatchOption}
+use Rattle.std.proofs.Common.{◌≡◌, ℕ, ◌≤◌, Bool, true, false, List, [], ◌∷◌, ◌++◌, Option, Some, Result, Ok, Err, inl, inr, arith, subst, sym}
+use Rattle.std.specs.Prelude.{if◌then◌else◌, nat_lt, IfOk}
 use Rattle.std.specs.declared.alloc.AllocError.{AllocError}
 use Rattle.clap.specs.Words.{Text}
 use Rattle.envimg_core.specs.Geometry.{Shape, room_of}
@@ -19,7 +19,7 @@ use Rattle.boot_search.specs.SurveyText.{told_of}
 use Rattle.env_session.specs.Session.{Held}
 use Rattle.fw_arguments.specs.PowerOns.{PowerOns}
 use Rattle.fw_engines.specs.Streams.{Writers}
-use Rattle.fw_tools.specs.PowerOns.{AddsScriptOf, AreScriptsOf, BootsOver, IsScriptOf, IsToldOf, one_copy, power_for}
+use Rattle.fw_tools.specs.PowerOns.{AddsScriptOf, AreScriptsOf, BootsOver, IsToldOf, one_copy, power_for}
 use Rattle.fw_tools.proofs.CheckLemmas.{text_small}
 use Rattle.fw_files.specs.FileTexts.{Holds}
 

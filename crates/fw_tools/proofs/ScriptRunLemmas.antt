@@ -1,5 +1,5 @@
 -- The script that `run` is given.
-use Rattle.std.proofs.Common.{◌≡◌, ℕ, List, Option, Some, None, Result, Ok, Err, refl, subst, sym}
+use Rattle.std.proofs.Common.{◌≡◌, ℕ, List, Some, None, Result, Ok, Err, refl, subst, sym}
 use Rattle.std.specs.Prelude.{MatchResult}
 use Rattle.hush_run.specs.Meaning.{bodies_of}
 use Rattle.hush_syntax.specs.Reading.{read_in}

@@ -2,9 +2,7 @@
 use Rattle.std.proofs.Common.{◌≡◌, ℕ, Bool, true, false, List, Option, Some, None, inl, inr, subst}
 use Rattle.std.specs.Prelude.{MatchOption}
 use Rattle.env_session.specs.Session.{Held}
-use Rattle.hush_commands.specs.Hardware.{Hardware}
 use Rattle.fw_session.specs.declared.session_end.SessionEnding.{SessionEnding}
-use Rattle.fw_arguments.specs.DryRuns.{DryRun}
 use Rattle.fw_files.specs.Copies.{warned_of}
 use Rattle.fw_files.specs.Locks.{HasWaited}
 use Rattle.fw_files.specs.declared.source.Source.{Source}
@@ -13,11 +11,9 @@ use Rattle.fw_tools.specs.Said.{SaysSome}
 use Rattle.fw_files.specs.WrittenBack.{AreKept, AreLeft, AreSafe, Devices}
 use Rattle.envimg_core.specs.declared.choice.Choice.TheVariants.{Second}
 use Rattle.fw_tools.proofs.SaidLemmas.{said_then, waited_said}
-use Rattle.fw_tools.specs.SessionRun.{ClosesDryRun, Reports, TriesOver, TriesWith, WaitsAndWarns, text_for}
-use Rattle.fw_tools.specs.WantedHardware.{IsHardwareOf}
-use Rattle.fw_engines.specs.Streams.{AppendsFront, Streams}
+use Rattle.fw_tools.specs.SessionRun.{ClosesDryRun, Reports, WaitsAndWarns, text_for}
+use Rattle.fw_engines.specs.Streams.{AppendsFront}
 use Rattle.fw_tools.proofs.WarnLemmas.{may_warn}
-use Rattle.fw_files.specs.FileTexts.{Holds}
 
 -- the copies are left as they are
 pub reported : (kept : Bool) (end : SessionEnding) (source : Source) (after : Held) (devices : Devices) (old new : Option (List ℕ)) (status : ℕ) → kept ≡ false →

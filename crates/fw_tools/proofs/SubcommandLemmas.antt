@@ -16,10 +16,13 @@ use Rattle.envimg_core.specs.declared.choice.Choice.TheVariants as choices
 use Rattle.envimg_core.specs.declared.geometry.Order.{Order}
 use Rattle.envvars_core.specs.declared.refusals.Refusal.{Refusal}
 use Rattle.fw_files.specs.Opening.{AreCopies, AreCopiesIn, AreWantedIn}
-use Rattle.fw_tools.specs.CheckRuns.{unchecked}
+use Rattle.fw_check.specs.EntryPlaces.{EnvironmentText}
+use Rattle.fw_tools.specs.CheckRuns.{ChecksOver, environment_text, unchecked}
 use Rattle.fw_tools.specs.Closing.{Closes}
-use Rattle.fw_tools.specs.Subcommands.{Acts, DoesJob, HaltsAt, HaltsCall, HaltsJob, OpensSession, Called, Done, Halts, Scene, UsesSession, UsesTool, is_kept, is_left, printed_so, stopped_job, stopped_status}
+use Rattle.fw_tools.specs.Subcommands.{Acts, DoesJob, HaltsCall, HaltsJob, OpensSession, Called, Done, Halts, Scene, UsesSession, UsesTool, is_kept, is_left, printed_so, stopped_job, stopped_status}
 use Rattle.fw_files.specs.WrittenBack.{AreLeft, Devices}
+use Rattle.fw_arguments.specs.Checks.{EnvironmentCheck}
+use Rattle.fw_tools.specs.Said.{AreSame}
 use Rattle.fw_arguments.specs.Calls.{Boots, Call, Checks, Defaults, Job, Runs, Task, Tool, Tries, changes, job_view}
 use Rattle.fw_arguments.specs.declared.job.Job as asked_jobs
 use Rattle.fw_arguments.specs.Report.{Asked, Check, Find, Look, Make, Work}
@@ -35,16 +38,15 @@ use Rattle.fw_session.specs.ScriptRun.{course_texts, ended_badly, ended_so, has_
 use Rattle.hush_run.specs.declared.outcome.Course.{Course}
 use Rattle.fw_files.specs.Locks.{HasWaited}
 use Rattle.fw_arguments.specs.declared.wanted_copy.WantedCopy.{WantedCopy}
-use Rattle.fw_engines.specs.Streams.{AppendsFront}
-use Rattle.fw_files.proofs.SaidLemmas.{silent_front}
-use Rattle.fw_files.specs.WantedCopy.{IsWantedIn, refusal_of}
-use Rattle.fw_files.specs.Source.{AreSettingsAt, IsSourceOf, second_bytes, warned, warning}
+use Rattle.fw_files.specs.WantedCopy.{IsRefusal, IsWantedIn, refusal_of}
+use Rattle.fw_files.specs.Source.{AreSettingsAt, IsSourceOf, KeptText, second_bytes}
+use Rattle.fw_files.specs.declared.stop.Stop.{Stop}
+use Rattle.fw_tools.specs.NoSession.{IsCopiesStop, IsOpeningStop}
+use Rattle.fw_tools.specs.declared.halt.Halt.TheVariants.{Files}
 use Rattle.fw_tools.specs.HaltLines.{SaysHalt}
 use Rattle.fw_tools.specs.Reasons.{explains_asked}
-use Rattle.fw_tools.specs.ScriptRuns.{IsNoScript}
 use Rattle.fw_tools.specs.declared.explains.Explains.{Explains}
 use Rattle.fw_tools.specs.declared.halt.Halt.{Halt}
-use Rattle.fw_tools.proofs.ScriptRunLemmas.{no_script}
 use Rattle.fw_files.specs.declared.source.Source.{Source}
 use Rattle.fw_arguments.specs.declared.task.Printing.{Printing}
 use Rattle.fw_arguments.specs.declared.task.Printing.TheVariants.{Lines, OneValue, Values}
@@ -55,7 +57,7 @@ use Rattle.fw_engines.specs.Restoration.{forced_effect, restore_effect, restorin
 use Rattle.fw_tools.specs.SessionRun as SessionRun
 use Rattle.fw_tools.specs.SessionRun.{ClosesDryRun, Reports, text_for}
 use Rattle.fw_session.specs.declared.session_end.SessionEnding.{SessionEnding}
-use Rattle.fw_engines.specs.Streams.{Streams, Writers}
+use Rattle.fw_engines.specs.Streams.{Streams, Writers, writers_of}
 use Rattle.fw_engines.specs.Tool.{Printed, Prints, Texts, Writes, WritesPart}
 use Rattle.fw_engines.specs.declared.tool_end.StreamFault.{StreamFault}
 use Rattle.fw_engines.specs.declared.tool_end.StreamFault.TheVariants.{Read, Write, Memory}
@@ -89,34 +91,28 @@ wanted_so holds config image order wanted read source copies (good, placed) = (
   placed.second,
 )
 
--- a session was opened, with or without a warning, and worked on, or not
-warned_is : (whole : Bool) (c : Choice) → (warned whole c ≡ []) ⊎ (warned whole c ≡ warning choices.Neither)
-warned_is true c = inl refl
-warned_is false choices.First = inl refl
-warned_is false choices.Second = inl refl
-warned_is false choices.Neither = inr refl
+-- or it can't be taken
+pub not_wanted : (holds : Holds) (call : Call) (read : Source) (why : Stop) → AreCopiesIn holds call.config call.image call.order read →
+    IsRefusal (refusal_of call.copy read.geometry read.first.bytes.items (second_bytes read.second)) why → IsCopiesStop holds call why
+not_wanted holds call read why copies refused = by_refusal _ refl refused
+  where
+    by_refusal : (r : Option Stop) → refusal_of call.copy read.geometry read.first.bytes.items (second_bytes read.second) ≡ r → IsRefusal r why → IsCopiesStop holds call why
+    by_refusal None is lacks = inr (inr lacks)
+    by_refusal (Some refusal) is same = inr (inl (read.geometry, read.first.bytes.items, second_bytes read.second, copies, is ∙ ap Some (sym same)))
 
-pub worked : (holds : Holds) (call : Call) (devices : Devices) (old new : Streams) (asked : Defaults) (source : Source) (session : Held) (said : Option (List ℕ)) (r : Result ℕ Halt) →
-    OpensSession holds call old.errors asked source session said →
-    MatchResult r (DoesJob holds call.only_changes call.job source session devices (record { input = old.input; output = old.output; errors = said }) new)
+-- a session was opened, and worked on, or not
+pub worked : (holds : Holds) (call : Call) (devices : Devices) (old new : Streams) (asked : Defaults) (source : Source) (kept : Option KeptText) (session : Held) (said : Option (List ℕ)) (r : Result ℕ Halt) →
+    OpensSession holds call old.errors asked source kept session said →
+    MatchResult r (DoesJob holds call.only_changes (environment_text call kept) call.job source session devices (record { input = old.input; output = old.output; errors = said }) new)
     (λ h. HaltsJob holds call.job h devices (record { input = old.input; output = old.output; errors = said }) new) →
     MatchResult r (UsesSession holds call devices old new) (λ h. HaltsCall holds call h devices old new)
-worked holds call devices old new asked source session said (Ok status) opens does = (asked, source, session, said, opens, does)
-worked holds call devices old new asked source session said (Err h) opens (halts, unread, (silent, same), left) =
-    let text = warned call.defaults.whole session.now.current in
-    (halts, unread, silent, left, (opens.waited, opens.waits, (text, warned_is call.defaults.whole session.now.current, subst (λ e. AppendsFront opens.waited e text) (sym same) opens.warns)))
-
-no_script_at : (holds : Holds) (job : Job) (h : Halt) → IsNoScript h → HaltsAt holds job h
-no_script_at holds (Runs run) h none = no_script holds run h none
-no_script_at holds (Tool task) h none = tt
-no_script_at holds (Tries run) h none = tt
-no_script_at holds (Boots power_ons) h none = tt
-no_script_at holds (Checks check) h none = tt
+worked holds call devices old new asked source kept session said (Ok status) opens does = (asked, source, kept, session, said, opens, does)
+worked holds call devices old new asked source kept session said (Err h) opens halts = inr (asked, source, kept, session, said, opens, halts)
 
 -- or it was not opened
-pub halted : (holds : Holds) (call : Call) (devices : Devices) (old new : Streams) (h : Halt) → IsNoScript h → new.input ≡ old.input → new.output ≡ old.output → AreLeft devices →
-    HasWaited old.errors new.errors → HaltsCall holds call h devices old new
-halted holds call devices old new h none unread silent left waited = (no_script_at holds call.job h none, unread, silent, left, (new.errors, waited, ([], inl refl, silent_front new.errors [])))
+pub halted : (holds : Holds) (call : Call) (devices : Devices) (old new : Streams) (why : Stop) → IsCopiesStop holds call why ⊎ IsOpeningStop holds call why →
+    new.input ≡ old.input → new.output ≡ old.output → AreLeft devices → HasWaited old.errors new.errors → HaltsCall holds call (Files why) devices old new
+halted holds call devices old new why stops unread silent left waited = inl ((why, refl, stops), unread, silent, left, waited)
 
 pub halted_as : (r : Result ℕ Halt) (h : Halt) (P : ℕ → Type 0) (Q : Halt → Type 0) → r ≡ Err h → Q h → MatchResult r P Q
 halted_as r h P Q is halts = subst (λ x. MatchResult x P Q) (sym is) halts
@@ -134,15 +130,24 @@ called holds wrote refused asked devices old input output before after (Err h) h
     inl (h, record { input = input; output = output; errors = before }, halts, refl, refl, subst (λ x. SaysHalt x h before after) by said, is ∙ of)
 
 -- what was done for a job, once it is known which that is
-pub job_done : (holds : Holds) (only_changes : Bool) (job known : asked_jobs.Job) (source : Source) (session : Held) (devices : Devices) (old new : Streams) (r : Result ℕ Halt) → job ≡ known →
-    MatchResult r (DoesJob holds only_changes (job_view known) source session devices old new) (λ h. HaltsJob holds (job_view known) h devices old new) →
-    MatchResult r (DoesJob holds only_changes (job_view job) source session devices old new) (λ h. HaltsJob holds (job_view job) h devices old new)
-job_done holds only_changes job known source session devices old new r is does =
-    subst (λ (j : asked_jobs.Job). MatchResult r (DoesJob holds only_changes (job_view j) source session devices old new) (λ h. HaltsJob holds (job_view j) h devices old new)) (sym is) does
+pub job_done : (holds : Holds) (only_changes : Bool) (text : Option EnvironmentText) (job known : asked_jobs.Job) (source : Source) (session : Held) (devices : Devices) (old new : Streams) (r : Result ℕ Halt) → job ≡ known →
+    MatchResult r (DoesJob holds only_changes text (job_view known) source session devices old new) (λ h. HaltsJob holds (job_view known) h devices old new) →
+    MatchResult r (DoesJob holds only_changes text (job_view job) source session devices old new) (λ h. HaltsJob holds (job_view job) h devices old new)
+job_done holds only_changes text job known source session devices old new r is does =
+    subst (λ (j : asked_jobs.Job). MatchResult r (DoesJob holds only_changes text (job_view j) source session devices old new) (λ h. HaltsJob holds (job_view j) h devices old new)) (sym is) does
 
 pub either : {T E : Type 0} (r : Result T E) (P P' : T → Type 0) (Q Q' : E → Type 0) → ((t : T) → P t → P' t) → ((e : E) → Q e → Q' e) → MatchResult r P Q → MatchResult r P' Q'
 either (Ok t) P P' Q Q' p q is = p t is
 either (Err e) P P' Q Q' p q is = q e is
+
+-- a check of an environment, of which it is known whether it is all of a text
+pub check_done : (holds : Holds) (only_changes : Bool) (check : EnvironmentCheck) (given text : Option EnvironmentText) (source : Source) (session : Held) (devices : Devices) (old new : Streams) (r : Result ℕ Halt) →
+    given ≡ text → new.input ≡ old.input → AreLeft devices →
+    MatchResult r (ChecksOver holds check given session (writers_of old) (writers_of new)) (λ h. AreSame (writers_of old) (writers_of new)) →
+    MatchResult r (DoesJob holds only_changes text (Checks check) source session devices old new) (λ h. HaltsJob holds (Checks check) h devices old new)
+check_done holds only_changes check given text source session devices old new (Ok status) is unread left checks =
+    (unread, subst (λ t. ChecksOver holds check t session (writers_of old) (writers_of new) status) is checks, left)
+check_done holds only_changes check given text source session devices old new (Err h) is unread left same = (tt, unread, same, left)
 
 -- by what a task is known to change
 pub kept_if : (r only_changes changing : Bool) (current : Choice) (touched : ℕ) (b : Bool) (task : Task) (opened after : Held) → r ≡ is_left changing only_changes current touched →
@@ -274,14 +279,14 @@ script_run_small holds run source session devices old new status (given, tree, s
     (run_small r.2.end.fault r.2.end.status (record { output = old.output; errors = r.3.0 }) (record { output = new.output; errors = r.1 }) (course_texts run.must_boot r.3.2.0) (texts_small run.must_boot r.3.2.0) r.3.2.5)
     r.4
 
-job_small : (holds : Holds) (only_changes : Bool) (job : Job) (source : Source) (session : Held) (devices : Devices) (old new : Streams) (status : ℕ) →
-    DoesJob holds only_changes job source session devices old new status → status ≤ stopped_job job
-job_small holds only_changes (Tool task) source session devices old new status (unread, uses) = tool_small holds only_changes task source session devices _ _ status uses
-job_small holds only_changes (Tries run) source session devices old new status (stand_ins, stand, tries) =
+job_small : (holds : Holds) (only_changes : Bool) (text : Option EnvironmentText) (job : Job) (source : Source) (session : Held) (devices : Devices) (old new : Streams) (status : ℕ) →
+    DoesJob holds only_changes text job source session devices old new status → status ≤ stopped_job job
+job_small holds only_changes text (Tool task) source session devices old new status (unread, uses) = tool_small holds only_changes task source session devices _ _ status uses
+job_small holds only_changes text (Tries run) source session devices old new status (stand_ins, stand, tries) =
     leaves_small (SessionRun.is_kept run.write tries.0) tries.0 source tries.3.held devices _ _ status tries.5
-job_small holds only_changes (Runs run) source session devices old new status (unread, runs) = script_run_small holds run source session devices _ _ status runs
-job_small holds only_changes (Boots power_ons) source session devices old new status (unread, boots, left) = boots_small holds power_ons session _ _ status boots
-job_small holds only_changes (Checks check) source session devices old new status (unread, checks, left) = check_small holds check session _ _ status checks
+job_small holds only_changes text (Runs run) source session devices old new status (unread, runs) = script_run_small holds run source session devices _ _ status runs
+job_small holds only_changes text (Boots power_ons) source session devices old new status (unread, boots, left) = boots_small holds power_ons session _ _ status boots
+job_small holds only_changes text (Checks check) source session devices old new status (unread, checks, left) = check_small holds check text session _ _ status checks
 
 job_stopped : (job : Job) → stopped_job job ≤ unchecked
 job_stopped (Tool task) = omega arith
@@ -298,8 +303,8 @@ stopped_small (Make image) = omega arith
 stopped_small (Find path) = omega arith
 
 done_small : (holds wrote : Holds) (asked : Asked) (devices : Devices) (old new : Streams) (status : ℕ) → Done holds wrote asked devices old new status → status ≤ unchecked
-done_small holds wrote (Work call) devices old new status (asked, source, session, said, opens, does) =
-    omega (arith, job_small holds call.only_changes call.job source session devices _ new status does, job_stopped call.job)
+done_small holds wrote (Work call) devices old new status (asked, source, kept, session, said, opens, does) =
+    omega (arith, job_small holds call.only_changes (environment_text call kept) call.job source session devices _ new status does, job_stopped call.job)
 done_small holds wrote (Look report) devices old new status (unread, reports, left) = omega (arith, reports_small holds report _ _ status reports)
 done_small holds wrote (Check check) devices old new status (unread, checks, left) = file_check_small holds check _ _ status checks
 done_small holds wrote (Make image) devices old new status (unread, makes, left) = omega (arith, image_small holds wrote image _ _ status makes)

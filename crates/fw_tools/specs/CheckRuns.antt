@@ -1,12 +1,15 @@
 -- What is done for a check (docs/check.md).
-use Rattle.std.specs.Prelude.{◌≡◌, ℕ, true, List, [], ◌∷◌, ◌++◌, Option, Some, None, is_some, if◌then◌else◌, option_map}
+use Rattle.std.specs.Prelude.{◌≡◌, ℕ, true, List, [], ◌∷◌, ◌++◌, Option, Some, None, codes, is_some, if◌then◌else◌, option_map}
+use Rattle.std.specs.Str.{bytes_eq}
 use Rattle.std.specs.Borrow.{Bor}
 use Rattle.std.specs.List.{AllByRecursion}
 use Rattle.clap.specs.Words.{Text}
 use Rattle.env_session.specs.Session.{Held}
 use Rattle.hush_commands.specs.Hardware.{Hardware, hardware}
+use Rattle.fw_arguments.specs.Calls.{Call}
 use Rattle.fw_arguments.specs.Checks.{EnvironmentCheck, FileCheck}
 use Rattle.fw_check.specs.Called.{given_with}
+use Rattle.fw_check.specs.EntryPlaces.{EnvironmentText}
 use Rattle.fw_check.specs.FileChecks.{Checks, ChecksFiles, FileScript, paths_of}
 use Rattle.fw_engines.specs.Streams.{Writers}
 use Rattle.fw_engines.specs.declared.tool_end.ToolEnd.{ToolEnd}
@@ -16,6 +19,7 @@ use Rattle.fw_files.specs.KnownNames.{AreKnownOf}
 use Rattle.fw_tools.specs.declared.hardware.GivenHardware.{GivenHardware}
 use Rattle.fw_files.specs.FileTexts.{Holds}
 use Rattle.fw_files.specs.Files.{IsTextAt}
+use Rattle.fw_files.specs.Source.{KeptText}
 
 -- a path in the code's form
 abbrev pub path_view : Option (Bor Text) → Option Text
@@ -61,12 +65,25 @@ abbrev pub AddsScriptAt : Holds → (path : Text) → (old new : List FileScript
 AddsScriptAt holds path old new =
     (text : List ℕ) × IsTextAt holds path text × (new ≡ old ++ record { path = path; text = text } ∷ [])
 
--- the scripts of an environment are checked, and those in files over it
-abbrev pub ChecksOver : Holds → EnvironmentCheck → Held → Writers → Writers → ℕ → Type 0
-ChecksOver holds check session old new status =
+-- the text that is all of an environment, if it is one for import in a file. Standard input has no places
+abbrev pub text_at : (path : Text) → KeptText → Option EnvironmentText
+text_at path kept =
+    if bytes_eq path (codes "-") then None
+    else Some (record { path = path; text = kept.text; entries = kept.entries })
+
+abbrev pub text_of : (image : Option ℕ) → (path : Option Text) → Option KeptText → Option EnvironmentText
+text_of (Some size) (Some path) (Some kept) = text_at path kept
+text_of image path kept = None
+
+abbrev pub environment_text : Call → Option KeptText → Option EnvironmentText
+environment_text call kept = text_of call.image call.defaults.path kept
+
+-- the scripts of an environment, which may be all of a text, are checked, and those in files over it
+abbrev pub ChecksOver : Holds → EnvironmentCheck → Option EnvironmentText → Held → Writers → Writers → ℕ → Type 0
+ChecksOver holds check text session old new status =
     (h : Option Hardware) × (known : List Text) × (scripts : List FileScript) × IsHardwareGiven holds check.stand_ins check.board h
     × AreKnownOf holds check.known known × AreScriptsAt holds check.scripts scripts
-    × Ends (Checks (given_with check.shell h known) session.now.env check.choice check.names scripts old) new status
+    × Ends (Checks (given_with check.shell h known) session.now.env text check.choice check.names scripts old) new status
 
 -- the same for scripts in files alone
 abbrev pub ChecksFile : Holds → FileCheck → Writers → Writers → ℕ → Type 0

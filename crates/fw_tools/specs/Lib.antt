@@ -9,6 +9,7 @@ pub mod FaultNames
 pub mod Greeting
 pub mod HaltLines
 pub mod NewImages
+pub mod NoSession
 pub mod PowerOns
 pub mod Reasons
 pub mod Said

@@ -1,27 +1,28 @@
 -- What a subcommand does over a session, and what it prints (docs/tools.md, "Subcommands over files").
-use Rattle.std.specs.Prelude.{◌≡◌, ◌⊎◌, ℕ, ◌==◌, ◌&&◌, not, Bool, true, false, if◌then◌else◌, List, [], map, Option, Some, None, Result, Ok, Err, ⊤}
+use Rattle.std.specs.Prelude.{◌≡◌, ◌⊎◌, ℕ, ◌==◌, ◌&&◌, not, Bool, true, false, if◌then◌else◌, List, map, Option, Some, None, Result, Ok, Err, ⊤}
 use Rattle.std.specs.FinMap as env
 use Rattle.env_session.specs.Session.{Held, last_changed_names}
 use Rattle.envimg_core.specs.declared.choice.Choice.{Choice}
 use Rattle.envimg_core.specs.declared.choice.Choice.TheVariants.{Neither, Second}
 use Rattle.envcfg_core.specs.Entries as text_entries
-use Rattle.envcfg_core.specs.Import.{import_of}
-use Rattle.envcfg_core.specs.SetScript.{set_script_of}
 use Rattle.clap.specs.Words.{Text}
 use Rattle.fw_arguments.specs.Calls.{Boots, Call, Checks, Defaults, Job, Tool, Tries, Runs, Task, changes, keeps_lock, spares, writes}
-use Rattle.fw_tools.specs.CheckRuns.{ChecksFile, ChecksOver, unchecked}
+use Rattle.fw_check.specs.EntryPlaces.{EnvironmentText}
+use Rattle.fw_tools.specs.CheckRuns.{ChecksFile, ChecksOver, environment_text, unchecked}
 use Rattle.fw_tools.specs.Closing.{Closes}
 use Rattle.fw_tools.specs.CopyReport.{HaltsAfterLocks, ReportsOn}
 use Rattle.fw_arguments.specs.Report.{Asked, Check, Find, Look, Make, Work}
 use Rattle.fw_files.specs.Opening.{IsOpening}
-use Rattle.fw_files.specs.Source.{IsTaken, lacks_copy, warned, warning}
+use Rattle.fw_files.specs.Source.{IsTaken, KeptText, lacks_copy, warned}
 use Rattle.fw_files.specs.Locks.{HasWaited}
 use Rattle.fw_tools.specs.HaltLines.{SaysHalt}
 use Rattle.fw_tools.specs.Reasons.{explains_asked}
 use Rattle.fw_tools.specs.Said.{AreSame}
 use Rattle.fw_tools.specs.declared.halt.Halt.{Halt}
+use Rattle.fw_tools.specs.declared.halt.Halt.TheVariants.{Files}
 use Rattle.fw_files.specs.WrittenBack.{AreLeft, Devices}
 use Rattle.fw_files.specs.declared.source.Source.{Source}
+use Rattle.fw_files.specs.declared.stop.Stop.{Stop}
 use Rattle.fw_engines.specs.TextForm.{export_texts}
 use Rattle.fw_engines.specs.VariableLines.{named, printed}
 use Rattle.envimg_core.specs.Environment.{Environment}
@@ -34,6 +35,7 @@ use Rattle.fw_engines.specs.Restoration.{LacksMemoryToRestore, restore_effect}
 use Rattle.text_parts.specs.Words.{spaced}
 use Rattle.fw_tools.specs.Dumps.{Finds}
 use Rattle.fw_tools.specs.NewImages.{MakesImage}
+use Rattle.fw_tools.specs.NoSession.{IsCopiesStop, IsOpeningStop}
 use Rattle.fw_tools.specs.SessionRun.{TriesOver}
 use Rattle.fw_tools.specs.PowerOns.{BootsOver}
 use Rattle.fw_tools.specs.ScriptRuns.{HaltsRun, RunsOver}
@@ -119,16 +121,16 @@ UsesTool holds only_changes task source session devices old new status =
 
 -- what is done over a session; a tool doesn't read standard input, nor does a check, nor a script's run
 -- except for its file
-abbrev pub DoesJob : Holds → (only_changes : Bool) → Job → Source → Held → Devices → Streams → Streams → ℕ → Type 0
-DoesJob holds only_changes (Tool task) source session devices old new status =
+abbrev pub DoesJob : Holds → (only_changes : Bool) → Option EnvironmentText → Job → Source → Held → Devices → Streams → Streams → ℕ → Type 0
+DoesJob holds only_changes text (Tool task) source session devices old new status =
     (new.input ≡ old.input) × UsesTool holds only_changes task source session devices (writers_of old) (writers_of new) status
-DoesJob holds only_changes (Tries run) source session devices old new status = TriesOver holds run source session devices old new status
-DoesJob holds only_changes (Runs run) source session devices old new status =
+DoesJob holds only_changes text (Tries run) source session devices old new status = TriesOver holds run source session devices old new status
+DoesJob holds only_changes text (Runs run) source session devices old new status =
     (new.input ≡ old.input) × RunsOver holds run source session devices (writers_of old) (writers_of new) status
-DoesJob holds only_changes (Boots power_ons) source session devices old new status =
+DoesJob holds only_changes text (Boots power_ons) source session devices old new status =
     (new.input ≡ old.input) × BootsOver holds power_ons session (writers_of old) (writers_of new) status × AreLeft devices
-DoesJob holds only_changes (Checks check) source session devices old new status =
-    (new.input ≡ old.input) × ChecksOver holds check session (writers_of old) (writers_of new) status × AreLeft devices
+DoesJob holds only_changes text (Checks check) source session devices old new status =
+    (new.input ≡ old.input) × ChecksOver holds check text session (writers_of old) (writers_of new) status × AreLeft devices
 
 -- nothing is done over a session: if that is for a text which isn't a script, `run` was given that text
 abbrev pub HaltsAt : Holds → Job → Halt → Type 0
@@ -141,28 +143,38 @@ HaltsJob holds job halt devices old new =
 
 -- locks may be waited for, then a session is opened, with a warning if no copy is good, and worked on; what writes
 -- copies, and isn't told to write over those that are good in another way, works over none of these
-pub record OpensSession (holds : Holds) (call : Call) (old : Option (List ℕ)) (asked : Defaults) (source : Source) (session : Held) (warned_by : Option (List ℕ)) : Type 0 where
+pub record OpensSession (holds : Holds) (call : Call) (old : Option (List ℕ)) (asked : Defaults) (source : Source) (kept : Option KeptText) (session : Held) (warned_by : Option (List ℕ)) : Type 0 where
   pub waited : Option (List ℕ)
   pub waits : HasWaited old waited
   pub taken : IsTaken session.now.current call.defaults asked
-  pub opening : IsOpening holds call.config call.image call.order call.copy (spares call) asked source session
+  pub opening : IsOpening holds call.config call.image call.order call.copy (spares call) asked source kept session
   pub accepted : lacks_copy asked session.now.current ≡ false
   pub warns : AppendsFront waited warned_by (warned call.defaults.whole session.now.current)
 
 abbrev pub UsesSession : Holds → Call → Devices → Streams → Streams → ℕ → Type 0
 UsesSession holds call devices old new status =
-    (asked : Defaults) × (source : Source) × (session : Held) × (said : Option (List ℕ)) × OpensSession holds call old.errors asked source session said
-    × DoesJob holds call.only_changes call.job source session devices (record { input = old.input; output = old.output; errors = said }) new status
+    (asked : Defaults) × (source : Source) × (kept : Option KeptText) × (session : Held) × (said : Option (List ℕ))
+    × OpensSession holds call old.errors asked source kept session said
+    × DoesJob holds call.only_changes (environment_text call kept) call.job source session devices
+    (record { input = old.input; output = old.output; errors = said }) new status
 
--- or before that it comes to an end, and nothing is done: locks may be waited for, and a warning that no copy is good precedes a
--- fault of what is read after it
-abbrev pub MayWarnOpening : Option (List ℕ) → Option (List ℕ) → Type 0
-MayWarnOpening old new = (text : List ℕ) × ((text ≡ []) ⊎ (text ≡ warning Neither)) × AppendsFront old new text
+-- or there is none: nothing is done, and printed only that locks are waited for
+abbrev pub HasNoSession : Holds → Call → Halt → Devices → Streams → Streams → Type 0
+HasNoSession holds call halt devices old new =
+    ((why : Stop) × (halt ≡ Files why) × (IsCopiesStop holds call why ⊎ IsOpeningStop holds call why))
+    × (new.input ≡ old.input) × (new.output ≡ old.output) × AreLeft devices × HasWaited old.errors new.errors
+
+-- or a file for the work over it can't be used
+abbrev pub HaltsOver : Holds → Call → Halt → Devices → Streams → Streams → Type 0
+HaltsOver holds call halt devices old new =
+    (asked : Defaults) × (source : Source) × (kept : Option KeptText) × (session : Held) × (said : Option (List ℕ))
+    × OpensSession holds call old.errors asked source kept session said
+    × HaltsJob holds call.job halt devices
+    (record { input = old.input; output = old.output; errors = said }) new
 
 abbrev pub HaltsCall : Holds → Call → Halt → Devices → Streams → Streams → Type 0
 HaltsCall holds call halt devices old new =
-    HaltsAt holds call.job halt × (new.input ≡ old.input) × (new.output ≡ old.output) × AreLeft devices
-    × ((waited : Option (List ℕ)) × HasWaited old.errors waited × MayWarnOpening waited new.errors)
+    HasNoSession holds call halt devices old new ⊎ HaltsOver holds call halt devices old new
 
 -- what a subcommand is asked for is done
 abbrev pub Done : (holds wrote : Holds) → Asked → Devices → Streams → Streams → ℕ → Type 0

@@ -1,16 +1,19 @@
 //! The subcommands over the files that the arguments name.
-ghost use Rattle.std.specs.Prelude.{◌≡◌, IfOk, MatchResult, None, Some, if◌then◌else◌, is_some, option_map, true};
+ghost use Rattle.std.specs.Prelude.{◌≡◌, IfErr, IfOk, MatchResult, None, Some, if◌then◌else◌, is_some, option_map, true};
 ghost use Rattle.device_files.specs.Record.{calls_in};
 ghost use Rattle.envimg_core.specs.declared.choice.Choice.TheVariants.{Second};
-ghost use Rattle.fw_arguments.specs.Calls.{call_view, job_view, keeps_lock, task_view};
+ghost use Rattle.fw_arguments.specs.Calls.{call_view, job_view, keeps_lock, locks_view, task_view};
 ghost use Rattle.fw_files.specs.Locks.{HasWaited};
 ghost use Rattle.fw_files.specs.Opening.{AreCopiesIn, AreWantedIn};
+ghost use Rattle.fw_files.specs.Source.{kept_view};
+ghost use Rattle.fw_tools.specs.CheckRuns.{environment_text};
 ghost use Rattle.fw_tools.specs.Closing.{Closes};
+ghost use Rattle.fw_tools.specs.NoSession.{IsCopiesStop, IsDeviceStop, IsReadStop};
 ghost use Rattle.fw_tools.specs.Said.{AreSame};
 ghost use Rattle.fw_tools.specs.Subcommands.{DoesJob, HaltsCall, HaltsJob, UsesSession, UsesTool, hold_for, is_left, keeps_locks};
 
 use crate::boot_work::boot_given;
-use crate::check_work::check_session;
+use crate::check_work::{check_session, environment_text};
 use crate::closing::write_back;
 use crate::explains::Explains;
 use crate::halt::Halt;
@@ -25,7 +28,7 @@ use fw_arguments::{Call, Job, Task};
 use fw_engines::ToolEnd;
 use fw_engines::streams::say;
 use fw_files::{
-    Hold, Locks, Source, Stop, System, erased, lock_copies, open, read_config, read_source,
+    Hold, Locks, Opened, Source, Stop, System, erased, lock_copies, open, read_config, read_source,
     wanted_copies, warning_of,
 };
 use std::io::{Read, Write};
@@ -49,9 +52,12 @@ pub(crate) fn use_files<'w, X: System + AllocGlobal, D: Start, R: Read, W: Write
         (record { input = R.remaining input.new; output = W.contents output.new; errors = E.contents errors.new })) }
 {
     let (source, _locks) = copies_for(rt, call, errors)?;
-    let session = open(rt, &source, &call.defaults, call.spares())?;
-    say(errors, warning_of(call.defaults.whole, session.current()));
-    work(rt, &source, session, call, devices, input, output, errors)
+    let opened = open(rt, &source, &call.defaults, call.spares())?;
+    say(
+        errors,
+        warning_of(call.defaults.whole, opened.session.current()),
+    );
+    work(rt, &source, opened, call, devices, input, output, errors)
 }
 
 /// The copies for a subcommand, of which it may want one, and the locks under which it works on them, if it has any.
@@ -63,6 +69,7 @@ fn copies_for<'w, X: System + AllocGlobal, E: Write>(
     ensures waited { HasWaited (E.contents errors.old) (E.contents errors.new) }
     ensures locks { IfOk result (λ found. is_some found.1 ≡ keeps_locks call.now.image (job_view call.now.job)) }
     ensures found { IfOk result (λ found. AreWantedIn (X.holds rt.now) call.now.config.now call.now.image call.now.order call.now.copy found.0) }
+    ensures stopped { IfErr result (IsCopiesStop (X.holds rt.now) (call_view call.now)) }
 {
     let (read, locks) = copies_in(rt, call, errors)?;
     let source = wanted_copies(rt.alloc(), read, call.copy)?;
@@ -78,6 +85,8 @@ fn copies_in<'w, X: System + AllocGlobal, E: Write>(
     ensures waited { HasWaited (E.contents errors.old) (E.contents errors.new) }
     ensures locks { IfOk result (λ found. is_some found.1 ≡ keeps_locks call.now.image (job_view call.now.job)) }
     ensures found { IfOk result (λ found. AreCopiesIn (X.holds rt.now) call.now.config.now call.now.image call.now.order found.0) }
+    ensures stopped { IfErr result
+        (IsReadStop (X.holds rt.now) call.now.config.now call.now.image (locks_view call.now.locks)) }
 {
     match call.image {
         None => copies_in_devices(rt, call, errors),
@@ -97,6 +106,8 @@ fn copies_in_devices<'w, X: System + AllocGlobal, E: Write>(
     ensures waited { HasWaited (E.contents errors.old) (E.contents errors.new) }
     ensures locks { IfOk result (λ found. is_some found.1 ≡ keeps_lock (job_view call.now.job)) }
     ensures found { IfOk result (λ found. AreCopiesIn (X.holds rt.now) call.now.config.now None call.now.order found.0) }
+    ensures stopped { IfErr result
+        (IsDeviceStop (X.holds rt.now) call.now.config.now (locks_view call.now.locks)) }
 {
     let config = read_config(rt, call.config)?;
     let hold = hold_for(&call.job);
@@ -129,14 +140,16 @@ fn locks_for_work<L: Drop>(locks: L, job: &Job<'_, '_>) -> Option<L>
 fn work<'w, X: System + AllocGlobal, D: Start, R: Read, W: Write, E: Write>(
     rt: &X,
     source: &Source,
-    opened: Session,
+    opened: Opened,
     call: &Call<'_, 'w>,
     devices: &mut Option<OpenDevice<X::File, D>>,
     input: &mut R,
     output: &mut W,
     errors: &mut E,
 ) -> Result<u8, Halt<'w>>
-    ensures { MatchResult result (DoesJob (X.holds rt.now) call.now.only_changes (call_view call.now).job source.now opened
+    ensures { MatchResult result
+        (DoesJob (X.holds rt.now) call.now.only_changes (environment_text (call_view call.now) (kept_view opened.text))
+        (call_view call.now).job source.now opened.session
         (record { start = D.contents; before = option_map (λ d. calls_in d.calls) devices.old; after = option_map (λ d. calls_in d.calls) devices.new })
         (record { input = R.remaining input.old; output = W.contents output.old; errors = E.contents errors.old })
         (record { input = R.remaining input.new; output = W.contents output.new; errors = E.contents errors.new }))
@@ -145,13 +158,15 @@ fn work<'w, X: System + AllocGlobal, D: Start, R: Read, W: Write, E: Write>(
         (record { input = R.remaining input.old; output = W.contents output.old; errors = E.contents errors.old })
         (record { input = R.remaining input.new; output = W.contents output.new; errors = E.contents errors.new })) }
 {
+    let Opened { session, text } = opened;
     match &call.job {
         Job::Tool(task) => {
+            drop(text);
             let explains = Explains::by(call);
             use_tool(
                 rt,
                 source,
-                opened,
+                session,
                 call.only_changes,
                 *task,
                 explains,
@@ -161,13 +176,23 @@ fn work<'w, X: System + AllocGlobal, D: Start, R: Read, W: Write, E: Write>(
             )
         }
         Job::DryRun(run) => {
+            drop(text);
             talk(
-                rt, source, opened, run, call.locks, devices, input, output, errors,
+                rt, source, session, run, call.locks, devices, input, output, errors,
             )
         }
-        Job::Script(run) => run_given(rt, source, opened, run, devices, output, errors),
-        Job::Boot(power_ons) => boot_given(rt, &opened, power_ons, output, errors),
-        Job::Check(check) => check_session(rt, &opened, check, output, errors),
+        Job::Script(run) => {
+            drop(text);
+            run_given(rt, source, session, run, devices, output, errors)
+        }
+        Job::Boot(power_ons) => {
+            drop(text);
+            boot_given(rt, &session, power_ons, output, errors)
+        }
+        Job::Check(check) => {
+            let text = environment_text(call.image, call.defaults.path, &text);
+            check_session(rt, &session, text, check, output, errors)
+        }
     }
 }
 

@@ -1,9 +1,5 @@
-use Rattle.std.proofs.Common.{subst, sym}
 use Rattle.std.proofs.lemmas.Result.{IfOk-weaker}
-use Rattle.fw_files.specs.Files.{IsTextAt}
 use Rattle.fw_files.proofs.default_text.read_default.Goals as goal
 
 pub returns : goal.returns
-returns g c =
-    let held = subst (IsTextAt (g.X.System.holds c.args.rt.now) c.args.path.now) (sym c.deref.ensures.value) c.in_ok-text.ensures.held in
-    IfOk-weaker c.default_from.result _ _ (λ vars is. (c.deref.result.now, held, is)) c.default_from.ensures
+returns g c = IfOk-weaker c.default_from.result _ _ (λ read is. (c.in_ok-text.text.items, c.in_ok-text.ensures.held, is)) c.default_from.ensures

@@ -1,8 +1,5 @@
-use Rattle.std.proofs.Common.{subst}
-use Rattle.fw_arguments.specs.DryRuns.{script_run_view}
 use Rattle.hush_commands.specs.Hardware.{hardware}
 use Rattle.hush_syntax.specs.Scripts.{tree_of}
-use Rattle.fw_tools.proofs.ScriptRunLemmas.{no_script}
 use Rattle.fw_tools.proofs.script_work.run_given.Goals as goal
 
 pub returns : goal.returns

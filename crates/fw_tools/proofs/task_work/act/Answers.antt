@@ -1,5 +1,4 @@
 use Rattle.std.proofs.Common.{List, map, refl, subst, sym}
-use Rattle.env_session.specs.Requests.{entry_in}
 use Rattle.envcfg_core.specs.Entries.{entry_view}
 use Rattle.envimg_core.specs.Pieces.{Entry}
 use Rattle.fw_arguments.specs.Calls.{task_view}
