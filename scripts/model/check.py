@@ -135,7 +135,7 @@ TEXT, GCC, JSON = b"text", b"gcc", b"json"
 
 
 def as_text(told, place, kind, sentence):
-    name = told.get(FILE) or told.get(VARIABLE) or b"check"
+    name = next(iter(told.values()), b"check")
     return b"%s: %s: %s [%s]" % (b":".join([name, *(b"%d" % number for number in place)]), KINDS[kind], sentence, kind)
 
 
