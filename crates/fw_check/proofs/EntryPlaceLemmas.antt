@@ -91,13 +91,13 @@ spelled-sum (b ∷ bs) escaped (suc n) more some =
 
 -- ---- the bytes that so much of a text spells
 
-newline-ends : (b : ℕ) (bs : List ℕ) → is_newline b ≡ true → spelled false (b ∷ bs) ≡ ended_by_newline bs
+pub newline-ends : (b : ℕ) (bs : List ℕ) → is_newline b ≡ true → spelled false (b ∷ bs) ≡ ended_by_newline bs
 newline-ends b bs h = rw h refl
 
-escape-begins : (b : ℕ) (bs : List ℕ) → is_newline b ≡ false → eqb b 92 ≡ true → spelled false (b ∷ bs) ≡ spelled true bs
+pub escape-begins : (b : ℕ) (bs : List ℕ) → is_newline b ≡ false → eqb b 92 ≡ true → spelled false (b ∷ bs) ≡ spelled true bs
 escape-begins b bs other slash = rw (other, slash) refl
 
-byte-stands : (b : ℕ) (bs : List ℕ) → is_newline b ≡ false → eqb b 92 ≡ false → spelled false (b ∷ bs) ≡ with_byte b (spelled false bs)
+pub byte-stands : (b : ℕ) (bs : List ℕ) → is_newline b ≡ false → eqb b 92 ≡ false → spelled false (b ∷ bs) ≡ with_byte b (spelled false bs)
 byte-stands b bs other none = rw (other, none) refl
 
 pub never : {A : Type 0} → false ≡ true → A

@@ -14,3 +14,4 @@ pub mod Rows
 mod LineLemmas
 mod AskLemmas
 mod EntryPlaceLemmas
+mod EntryLawLemmas

@@ -1,6 +1,6 @@
 -- Places in the text that an environment was read from (docs/check.md, "Formats").
-use Rattle.std.specs.Prelude.{◌≡◌, ◌≤◌, ℕ, zero, suc, ◌==◌, ◌+◌, ◌-◌, ◌^◌, ◌&&◌, min, not, Bool, true, false, List, [], ◌∷◌, length, fold, map, take, if◌then◌else◌}
-use Rattle.std.specs.List.{after_first}
+use Rattle.std.specs.Prelude.{◌≡◌, ◌≤◌, ℕ, zero, suc, ◌==◌, ◌+◌, ◌-◌, ◌^◌, ◌&&◌, min, not, Bool, true, false, List, [], ◌∷◌, length, fold, map, take, Some, if◌then◌else◌}
+use Rattle.std.specs.List.{AllByRecursion, after_first}
 use Rattle.std.specs.Str.{bytes_eq}
 use Rattle.envcfg_core.specs.Entries.{Entry, entry_view}
 use Rattle.envcfg_core.specs.Import.{spelled}
@@ -57,6 +57,13 @@ spelled_length false (suc n) (b ∷ bs) = suc (if b == 92 then spelled_length tr
 abbrev pub Spells : (text : List ℕ) → (count length_of : ℕ) → Type 0
 Spells text count length_of =
     count ≤ length (spelled false text).bytes → (spelled false (take length_of text)).bytes ≡ take count (spelled false text).bytes
+
+-- a value is what is spelled behind the first `=` of its entry's line
+abbrev pub IsThere : (text : List ℕ) → Entry → Type 0
+IsThere text e = (value : List ℕ) → e.value ≡ Some value → (spelled false (entry_after (e.line - 1) text).value).bytes ≡ value
+
+abbrev pub AreThere : (text : List ℕ) → List Entry → Type 0
+AreThere text entries = AllByRecursion (IsThere text) entries
 
 -- lines count on, up to the most of 64 bits
 abbrev pub below : (before : ℕ) → Place → Place

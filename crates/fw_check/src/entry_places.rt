@@ -1,10 +1,11 @@
 //! Places in the text that an environment was read from.
-ghost use Rattle.std.specs.Prelude.{◌≡◌, ◌≤◌, false, length, map};
+ghost use Rattle.std.specs.Prelude.{◌≡◌, ◌≤◌, Ok, false, length, map};
 ghost use Rattle.std.specs.List.{after_first};
 ghost use Rattle.envcfg_core.specs.Entries.{entry_view};
+ghost use Rattle.envcfg_core.specs.Import.{import_of};
 ghost use Rattle.envimg_core.specs.Environment.{is_equals};
 ghost use Rattle.text_parts.specs.Bytes.{is_newline};
-ghost use Rattle.fw_check.specs.EntryPlaces.{Spells, after_lines, below, entry_of, is_escape, line_with, lines_before, place_in_entry, spelled_length, text_view};
+ghost use Rattle.fw_check.specs.EntryPlaces.{AreThere, Spells, after_lines, below, entry_of, is_escape, line_with, lines_before, place_in_entry, spelled_length, text_view};
 
 use envcfg_core::TextEntry;
 use fw_engines::{Place, Pointer};
@@ -52,7 +53,9 @@ impl<'t> Model for EntryPlaces<'t> {
 impl<'t> EntryPlaces<'t> {
     /// Those of the last entry of a name.
     pub(crate) fn of(text: EnvironmentText<'t>, name: &[u8]) -> EntryPlaces<'t>
-        ensures { result ≡ entry_of (text_view text.entry) name.now }
+        ensures entry { result ≡ entry_of (text_view text.entry) name.now }
+        ensures there { import_of text.entry.text.now ≡ Ok (map entry_view text.entry.entries.now)
+            → AreThere text.entry.text.now (map entry_view text.entry.entries.now) }
     {
         let before = lines_before(text.entries, name);
         let line = after_lines(text.text, before);
