@@ -23,8 +23,9 @@ _fwenv() {
     local word=${COMP_WORDS[COMP_CWORD]} before=${COMP_WORDS[COMP_CWORD - 1]} command='' at
     local commands='printenv setenv import export restore status find image run boot check session help'
     local options='-c --default --need-copy --big-endian -h --help'
-    local codes='carriage-return syntax other-shell unknown-command exit and-or if-status loop-status stale-status wrong-use test-operator run-undefined run-unknown hidden-assignment'
-    codes+=' quoted-for undefined-name no-variable no-script value-type'
+    local codes='carriage-return backslashes syntax joined-lines loose-operators apostrophes backslashes-in-quotes underscored-names'
+    codes+=' other-shell unknown-command exit many-words and-or if-status loop-status stale-status wrong-use test-operator run-undefined run-unknown'
+    codes+=' empty-value hidden-assignment empty-assignment quoted-for reserved-words-of-for undefined-name reread-value no-variable no-script value-type'
     local dry_run=' --shell --stubs --board --steps --depth --word --output --env --env-source --env-plain --size'
     for ((at = 1; at < COMP_CWORD; at++)); do
         case " $commands " in *" ${COMP_WORDS[at]} "*)

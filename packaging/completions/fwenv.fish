@@ -51,7 +51,7 @@ complete -c fwenv -n "__fish_seen_subcommand_from run session" -l write -d 'Writ
 complete -c fwenv -n "__fish_seen_subcommand_from run boot check session" -l shell -xa 'board strict' -d 'Whose rules count'
 complete -c fwenv -n "__fish_seen_subcommand_from setenv import restore run session" -l overwrite -d 'Write even if a copy is good in another way'
 complete -c fwenv -n "__fish_seen_subcommand_from run boot check session" -l stubs -rF -d 'Stand-ins'
-complete -c fwenv -n "__fish_seen_subcommand_from check" -l ignore -xa 'carriage-return syntax other-shell unknown-command exit and-or if-status loop-status stale-status wrong-use test-operator run-undefined run-unknown hidden-assignment quoted-for undefined-name no-variable no-script value-type' -d 'Kind of finding that is left out'
+complete -c fwenv -n "__fish_seen_subcommand_from check" -l ignore -xa 'carriage-return backslashes syntax joined-lines loose-operators apostrophes backslashes-in-quotes underscored-names other-shell unknown-command exit many-words and-or if-status loop-status stale-status wrong-use test-operator run-undefined run-unknown empty-value hidden-assignment empty-assignment quoted-for reserved-words-of-for undefined-name reread-value no-variable no-script value-type' -d 'Kind of finding that is left out'
 complete -c fwenv -n "__fish_seen_subcommand_from check" -l known -rF -d 'Names that the board sets'
 complete -c fwenv -n "__fish_seen_subcommand_from check" -l strict -d 'Warnings count as errors'
 complete -c fwenv -n "__fish_seen_subcommand_from check" -l all -d 'Each other script of the environment too'

@@ -79,8 +79,9 @@ NO_SHELL = b"""error: invalid value '%s' for '--shell <SHELL>'
 For more information, try '--help'.
 """
 NO_CODE = b"""error: invalid value '%s' for '--ignore <CODE>'
-  [possible values: carriage-return, syntax, other-shell, unknown-command, exit, and-or, if-status, loop-status, stale-status, wrong-use, test-operator, run-undefined, run-unknown, hidden-assignment, quoted-for, undefined-name, \
-no-variable, no-script, value-type]
+  [possible values: carriage-return, backslashes, syntax, joined-lines, loose-operators, apostrophes, backslashes-in-quotes, underscored-names, \
+other-shell, unknown-command, exit, many-words, and-or, if-status, loop-status, stale-status, wrong-use, test-operator, run-undefined, run-unknown, \
+empty-value, hidden-assignment, empty-assignment, quoted-for, reserved-words-of-for, undefined-name, reread-value, no-variable, no-script, value-type]
 
 For more information, try '--help'.
 """

@@ -11,7 +11,8 @@ from dataclasses import dataclass, field
 
 from model.board_file import Reply, lacks, names_of
 from model.calculations import COMPARISONS
-from model.grammar import parse
+from model.grammar import RESERVED, parse
+from model.quoting import APOSTROPHE, BACKSLASH, JOINED, LOOSE, UNDERSCORED, quoting
 from model.script_run import SENTENCES, line_and_column
 from model.shells import STRICT
 from model.statuses import AND_OR, IF_STATUS, LOOP_STATUS, settled
@@ -24,9 +25,11 @@ STARTED = (b"bootcmd", b"altbootcmd", b"preboot")
 ERROR, WARNING, NOTE = b"error", b"warning", b"note"
 # The kinds of findings by their codes, in the order of the table
 KINDS = {
-    b"carriage-return": WARNING, b"syntax": ERROR, b"other-shell": ERROR, b"unknown-command": ERROR, b"exit": WARNING,
-    AND_OR: WARNING, IF_STATUS: WARNING, LOOP_STATUS: WARNING, b"stale-status": WARNING, b"wrong-use": ERROR,
-    b"test-operator": ERROR, b"run-undefined": ERROR, b"run-unknown": NOTE, b"hidden-assignment": WARNING, b"quoted-for": WARNING, b"undefined-name": WARNING, b"no-variable": ERROR,
+    b"carriage-return": WARNING, b"backslashes": WARNING, b"syntax": ERROR, JOINED: WARNING, LOOSE: WARNING, APOSTROPHE: WARNING,
+    BACKSLASH: WARNING, UNDERSCORED: WARNING, b"other-shell": ERROR, b"unknown-command": ERROR, b"exit": WARNING, b"many-words": WARNING,
+    AND_OR: WARNING, IF_STATUS: WARNING, LOOP_STATUS: WARNING, b"stale-status": WARNING, b"wrong-use": ERROR, b"test-operator": ERROR,
+    b"run-undefined": ERROR, b"run-unknown": NOTE, b"empty-value": WARNING, b"hidden-assignment": WARNING, b"empty-assignment": NOTE,
+    b"quoted-for": WARNING, b"reserved-words-of-for": WARNING, b"undefined-name": WARNING, b"reread-value": WARNING, b"no-variable": ERROR,
     b"no-script": ERROR, b"value-type": ERROR,
 }  # fmt: skip
 NOT_DEFINED = b"no variable of this name is defined"
@@ -34,10 +37,12 @@ NOTHING = b"there is no script to look at"
 NOT_TYPED = b"the value does not have the type that .flags gives it"
 NO_SCRIPT = b"%s (%s)"
 CARRIAGE_RETURN = b"a carriage return stands in the script"
+DROPPED = b"a board drops this backslash when it loads the variable"
 NO_TARGET = b"`run %s` names a variable that is not defined"
 ANY_TARGET = b"what this runs is not known, so it is not followed"
 NO_COMMAND = b"no builtin and no stand-in is called `%s`"
 EXITS = b"U-Boot before 2025 ignores `exit` and goes on"
+TOO_MANY = b"U-Boot before 2025 takes 16 words of a command at most"
 # What is found at the first command inside, or behind an operator
 OF_STATUSES = {
     AND_OR: b"a board skips the rest of a chain once a command of it is skipped",
@@ -46,12 +51,15 @@ OF_STATUSES = {
 }
 STALE = b"shells differ in the `$?` with which a text or a turn of `for` begins"
 CUTS = b"a board cuts this word of a `for` at its blanks, in quotes too"
+REFUSES = b"a board refuses a reserved word in the list of a `for`"
+EMPTIES, LEAVES = b"a board keeps the variable, with an empty value", b"U-Boot before 2025 leaves the old value, if there is one"
 NO_OPERATOR = b"`test` has no operator `%s` here"
 IS_VARIABLE, IS_WRITTEN = b"`%s` is an environment variable, ", b"a script sets `%s` in the environment, "
 # What the strict shell makes of both, and a board of the second
 IS_FALSE, NOT_ASSIGNED, HIDES = b", and is false", b"so it can not be assigned", b"which hides what is assigned"
 NOT_THERE = b"where it can not be assigned"
 NOT_GIVEN = b"`${%s}` names a variable that nothing defines"
+READ_ANEW = b"a board reads quotes, backslashes, newlines and ` #` in the value of `%s` anew"
 # What other shells have and this one doesn't
 LACKED = {
     **{name: b"this shell has no `%s`: write `test`" % name for name in (b"[", b"[[")},
@@ -66,8 +74,11 @@ REDIRECTION = b"this shell redirects nothing"
 RUNS_NOTHING = b"`run` needs the name of a variable"
 NO_SETTING = b"`setenv` is written `setenv NAME VALUE`"
 NO_CALCULATION = b"`setexpr` is written `setexpr NAME VALUE` or `setexpr NAME VALUE OPERATOR VALUE`"
+NO_CALCULATOR = b"`setexpr` has no operators but + - * / % & | ^"
 NO_NUMBER = b"`test` compares a word as a number, which is 0"
 NO_SUBCOMMAND = b"`env` needs the name of one of its commands"
+NO_WORDS_OF_ENV = b"these are not the words of this `env` command"
+NO_WORDS, ONE_WORD = b"`saveenv` takes no words", b"`exit` takes one word at most"
 NO_SEPARATOR = b"a `;` is missing before `run`"
 NO_EXPRESSION = b"the words of `test` are no expression"
 # What U-Boot and its commands set by themselves, and what its scripts use whether a board defines it or not
@@ -86,6 +97,7 @@ OF_ENV = {
 }  # fmt: skip
 # The forms of `setexpr` that work on texts, and the comparisons of numbers
 TEXT_FORMS = (b"sub", b"gsub", b"fmt")
+CALCULATING = {b"+", b"-", b"*", b"/", b"%", b"&", b"|", b"^"}
 OF_NUMBERS = (b"-eq", b"-ne", b"-lt", b"-le", b"-gt", b"-ge")
 # The variables of a boot menu, and what comes before the script of an entry
 ENTRY_NAME, TITLE = re.compile(rb"bootmenu_[0-9]+"), re.compile(rb"[^=]*=?")
@@ -101,6 +113,14 @@ LAST = b"%s looked at, %s, %s\n"
 BROKEN = object()
 # How many words a board takes from one of these on
 SIZES = {b"!": 1, b"-a": 1, b"-o": 1, b"-n": 2, b"-z": 2, b"-e": 4}
+# How long a value may be of which all is known
+MOST_VALUE = 4096
+# How many words of a command older boards take
+MOST_WORDS = 16
+# What a board reads in a value again wherever it is substituted, and outside of quotes in a word of a command
+READ_ALWAYS, READ_OUTSIDE = re.compile(rb"['\\\n]"), re.compile(rb"['\\\n\"]|(?:\A|[ \t\n])#")
+# How many bytes of a line are shown in front of a place, and from it on
+IN_FRONT, BEHIND = 30, 40
 # How an operator is written
 WRITTEN = re.compile(rb"-[A-Za-z].*|[=!<>~]+", re.DOTALL)
 
@@ -139,6 +159,16 @@ def as_text(told, place, kind, sentence):
     return b"%s: %s: %s [%s]" % (b":".join([name, *(b"%d" % number for number in place)]), KINDS[kind], sentence, kind)
 
 
+def shown(text, at):
+    """The line of a place, cut to some bytes around it, and a `^` below the place."""
+    begin, end = text.rfind(b"\n", 0, at) + 1, text.find(b"\n", at)
+    end = len(text) if end < 0 else end
+    first, last = max(begin, at - IN_FRONT), min(end, at + BEHIND)
+    before, behind = b"..." * (first > begin), b"..." * (last < end)
+    line = re.sub(rb"[^ -~]", b"?", text[first:last].replace(b"\t", b" "))
+    return b"%s%s%s\n%s^\n" % (before, line, behind, b" " * (len(before) + at - first))
+
+
 def on_one_line(line):
     """As compilers print it: with no byte that ends a line or can't be printed."""
     return re.sub(rb"[\0-\x1f\x7f]", b"?", line)
@@ -166,12 +196,13 @@ class Report:
     scripts: int = 0
     found: Counter = field(default_factory=Counter)
 
-    def add_line(self, told, place, kind, sentence):
+    def add_line(self, told, place, kind, sentence, below=b""):
+        """`below`: what stands below the line."""
         if kind in self.ignored:
             return
         if len(self.text) < MOST:
             line = (as_json if self.format == JSON else as_text)(told, place, kind, sentence)
-            self.text += (on_one_line(line) if self.format == GCC else line) + b"\n"
+            self.text += (on_one_line(line) if self.format == GCC else line) + b"\n" + below
         else:
             self.is_cut = True
         self.found[KINDS[kind]] += 1
@@ -179,7 +210,8 @@ class Report:
     def add(self, told, text, findings):
         self.scripts += 1
         for finding in findings:
-            self.add_line(told, line_and_column(text, finding.place), finding.kind, finding.sentence)
+            below = shown(text, finding.place) if self.format == TEXT else b""
+            self.add_line(told, line_and_column(text, finding.place), finding.kind, finding.sentence, below)
 
     def add_script(self, name, script, findings):
         """Those in the script of a variable."""
@@ -316,24 +348,32 @@ def foreseen(command, known):
     if called(command, known) == b"test":
         return {tested for _, tested in substituted(words_of(command)[1:])}
     name, words = set_by(command, known)
-    if name == b"exists":
-        return set(words[:1]) - {None}
-    return set(words[:1]) - {None} if name in SETTING else set()
+    return named_by(words) if name in {b"exists", *SETTING} else set()
+
+
+def without_force(words):
+    """The words behind an `-f`, or all."""
+    return words[1:] if words and literal(words[0]) == b"-f" else words
 
 
 def set_by(command, known):
-    """What a command sets or asks for a variable by, and the literal arguments from its name on."""
-    name, words = called(command, known), [literal(word) for word in words_of(command)[1:]]
-    if name == b"env" and words[:1] not in ([], [None]):
-        name, words = known.shell.subcommand(words[0]), words[1:]
+    """What a command sets or asks for a variable by, and the arguments from its name on."""
+    name, words = called(command, known), words_of(command)[1:]
+    if name == b"env" and words and literal(words[0]) is not None:
+        name, words = known.shell.subcommand(literal(words[0])), words[1:]
         name = b"setenv" if name == b"set" else name if name == b"exists" else None
-    return name, words[1:] if name == b"setenv" and words[:1] == [b"-f"] else words
+    return name, without_force(words) if name == b"setenv" else words
+
+
+def named_by(words):
+    """The name that the first of these words is, if it is literal."""
+    return {literal(word) for word in words[:1]} - {None}
 
 
 def written_names(command, known):
     """The name of the variable that a command sets to a value."""
     name, words = set_by(command, known)
-    return set(words[:1]) - {None} if name in SETTING and len(words) > 1 else set()
+    return named_by(words) if name in SETTING and len(words) > 1 else set()
 
 
 # The kinds of findings in a text
@@ -343,6 +383,12 @@ def carriage_return(text):
     """The first one is reported."""
     at = text.find(b"\r")
     return [] if at < 0 else [Finding(at, b"carriage-return", CARRIAGE_RETURN)]
+
+
+def first_backslash(text):
+    """The first one is reported, in the script of a variable."""
+    at = text.find(b"\\")
+    return [] if at < 0 else [Finding(at, b"backslashes", DROPPED)]
 
 
 def no_script(fault):
@@ -444,6 +490,30 @@ def ignored_exit(command, known):
     return [Finding(command[1][0].place, b"exit", EXITS)] if called(command, known) == b"exit" else []
 
 
+def many_words(command, _known):
+    """More words than older boards take, at the first one that is too many."""
+    words = command[1] if command[0] == "simple" else []
+    return [Finding(word.place, b"many-words", TOO_MANY) for word in words[MOST_WORDS : MOST_WORDS + 1]]
+
+
+def emptied(command, known):
+    """A variable that is set to an empty value, which a board keeps."""
+    name, words = set_by(command, known)
+    is_emptied = name == b"setenv" and len(words) == 2 and literal(words[1]) == b""
+    return [Finding(words[1].place, b"empty-value", EMPTIES)] if is_emptied else []
+
+
+def empty_assignment(command, _known):
+    """An assignment of nothing, which older boards ignore."""
+    return [Finding(command[-1], b"empty-assignment", LEAVES)] if command[0] == "assign" and literal(command[2]) == b"" else []
+
+
+def reserved_word(command, _known):
+    """Words of a `for` that a board takes for reserved ones, in quotes too."""
+    words = command[2] if command[0] == "for" else []
+    return [Finding(word.place, b"reserved-words-of-for", REFUSES) for word in words if literal(word) in {*RESERVED, b"in"}]
+
+
 def cut_word(command, _known):
     """Words of a `for` with a blank, empty, or with a substitution and quotes: a board cuts them at blanks, in quotes too."""
     words = command[2] if command[0] == "for" else []
@@ -471,12 +541,17 @@ def of_target(word, known):
     return [] if name in known.started else [Finding(word.place, b"run-undefined", NO_TARGET % name)]
 
 
+def is_constant(name, known):
+    """Whether a variable has a value that nothing sets but the environment, and that isn't too long for a name."""
+    return known.values is not None and name in known.values and name not in known.set and len(known.values[name]) <= MOST_VALUE
+
+
 def constant_field(word, known):
     """The first field of a word whose substitutions are of variables that nothing sets but the environment; None for another, and if it has
     none."""
     text = b""
     for part in word:
-        if part[0] == "status" or (part[0] == "name" and (known.values is None or part[1] not in known.values or part[1] in known.set)):
+        if part[0] == "status" or (part[0] == "name" and not is_constant(part[1], known)):
             return None
         text += known.values[part[1]] if part[0] == "name" else b"" if part[0] == "mark" else bytes([part[1]])
     return re.match(rb"[^ \t\n]*", text)[0] or None
@@ -497,19 +572,52 @@ def misuse(name, words, known):
     if name == b"run":
         return None if words else RUNS_NOTHING
     if name == b"setenv":
-        is_right = words and not re.search(rb"[ =]", front(words[0])) and literals[1:2] != [b"="]
-        return None if is_right else NO_SETTING
+        return None if sets(words) else NO_SETTING
     if name == b"test":
         pairs = [*zip(literals, literals[1:]), *zip(literals[1:], literals)]
         return NO_NUMBER if any(is_number_of(*pair) for pair in pairs) else None
     if name in SETTING and (len(words) < 2 or literals[1] not in TEXT_FORMS):
-        return None if len(words) in (2, 4) and not re.search(rb"[+-]", plain(words[1])) else NO_CALCULATION
+        return misuse_of_setexpr(words)
     if name == b"env":
-        word = (literals or [b""])[0]
-        return NO_SUBCOMMAND if not words or (word is not None and not known.shell.names(word, OF_ENV)) else None
+        return misuse_of_env(words, known)
+    if name == b"saveenv":
+        return NO_WORDS if words else None
+    if name == b"exit":
+        return ONE_WORD if len(words) > 1 else None
     if name is None or name in BUILTINS:
         return None
     return NO_SEPARATOR if any(first == b"run" and second in (known.values or ()) for first, second in zip(literals, literals[1:])) else None
+
+
+def misuse_of_setexpr(words):
+    if len(words) not in (2, 4) or re.search(rb"[+-]", plain(words[1])):
+        return NO_CALCULATION
+    return NO_CALCULATOR if len(words) == 4 and literal(words[2]) not in {None, *CALCULATING} else None
+
+
+def sets(words):
+    """Whether these can be the words of `setenv`."""
+    words = without_force(words)
+    behind = [literal(word) for word in words[1:2]]
+    return words and literal(words[0]) != b"" and not re.search(rb"[ =]", front(words[0])) and behind != [b"="]
+
+
+# Whether what follows a subcommand of `env` can be its words
+WORDS_OF_ENV = {
+    b"exists": lambda words: len(words) == 1,
+    b"delete": without_force,
+    b"set": sets,
+    b"run": bool,
+    b"save": lambda words: not words,
+}
+
+
+def misuse_of_env(words, known):
+    word = literal(words[0]) if words else b""
+    if not words or (word is not None and not known.shell.names(word, OF_ENV)):
+        return NO_SUBCOMMAND
+    wanted = WORDS_OF_ENV.get(known.shell.subcommand(word)) if word is not None else None
+    return NO_WORDS_OF_ENV if wanted and not wanted(words[1:]) else None
 
 
 def is_number_of(sign, word):
@@ -596,9 +704,23 @@ def undefined_substitution(command, known):
     return [each for each, before in zip(found, [None, *found]) if each != before]
 
 
+def reread_value(command, known):
+    """Words with the value of a variable of the environment that a board reads again."""
+    first_reread = ((word, next((part[1] for part in word if is_reread(part, command, known)), None)) for word in words_of(command))
+    return [Finding(word.place, b"reread-value", READ_ANEW % name) for word, name in first_reread if name is not None]
+
+
+def is_reread(part, command, known):
+    """Whether a part of a word substitutes such a value."""
+    if part[0] != "name" or part[1] not in (known.values or ()):
+        return False
+    what = READ_OUTSIDE if command[0] == "simple" and not part[2] else READ_ALWAYS
+    return what.search(known.values[part[1]]) is not None
+
+
 SEARCHES = (
-    lacked_command, lost_test, unknown_command, foreign_arguments, ignored_exit, wrong_use, unknown_operator, undefined_target, refused_assignment, cut_word, foreign_list,
-    undefined_substitution,
+    lacked_command, lost_test, unknown_command, foreign_arguments, ignored_exit, many_words, wrong_use, unknown_operator, undefined_target, emptied,
+    refused_assignment, empty_assignment, cut_word, reserved_word, foreign_list, undefined_substitution, reread_value,
 )  # fmt: skip
 
 
@@ -613,12 +735,13 @@ def tree_of(text, shell):
         return None, fault
 
 
-def findings(text, known, asked=False):
-    """What is found in a text; `asked`: its status is asked for."""
-    found = carriage_return(text)
+def findings(text, known, asked=False, is_stored=False):
+    """What is found in a text; `asked`: its status is asked for; `is_stored`: it is that of a variable."""
+    found = carriage_return(text) + (first_backslash(text) if is_stored else [])
     tree, fault = tree_of(text, known.shell)
     if fault:
         return found + no_script(fault)
+    found += itertools.starmap(Finding, quoting(text))
     for command, setting in settled(text, tree, asked):
         found += of_setting(command, setting) + [each for search in SEARCHES for each in search(command, known)]
     return found
@@ -743,7 +866,7 @@ def of_environment(shell, values, stand_ins, board, own, names, files, is_all, *
         report.add({FILE: path}, text, findings(text, known))
     for name in scripts:
         script = text_of_script(name, values)
-        report.add_script(name, script, findings(script, known, name in known.asked))
+        report.add_script(name, script, findings(script, known, name in known.asked, is_stored=True))
     if files:
         return report
     if not scripts:

@@ -1,5 +1,5 @@
-"""Compares fwenv with U-Boot itself: scripts in a dry run by a board's shell and at its prompt, power-ons, and stored environments both
-ways.
+"""Compares fwenv with U-Boot itself: scripts in a dry run by a board's shell and at its prompt, what `fwenv check` finds in them, power-ons,
+and stored environments both ways.
 
     compare.py PROGRAM                compares; the last line is 'N passed, M failed'
     compare.py PROGRAM --only TEXT    only the rows, scripts and environments whose name has this text
@@ -23,6 +23,7 @@ from pathlib import Path
 from at_prompt import faults_of_random
 from board import COUNTED_SIZE, COUNTING, Silent, counts_boots, firmwares
 from cases import answers_of, cases, typed
+from coded import faults_of_codes
 from counted import check, end
 from dry_run import ANSWER, TOP, Pair, answer_of
 from images import COUNT, MANY, answers_to_many, answers_to_row, faults_of_environment
@@ -169,7 +170,7 @@ def take_random(found):
         try:
             answers = faults.result()
         except FAULTS as fault:
-            answers = [("scripts at random", f"{type(fault).__name__}: {fault}")]
+            answers = [("scripts", f"{type(fault).__name__}: {fault}")]
         for name, fault in answers:
             take(name, fault)
 
@@ -183,6 +184,8 @@ def main(arguments):
         compare_classes([*rows, MANY, *(row for row, _ in (*power_on_rows(), *counted_rows()))])
     if "--classes" not in arguments:
         with tempfile.TemporaryDirectory() as folder, ThreadPoolExecutor(os.cpu_count()) as pool:
+            if not {"--random", "--only"} & set(arguments):
+                take_random([pool.submit(lambda: [*faults_of_codes(rows, documented_classes(), Pair(arguments[0], "", None, Path(folder)))])])
             for release, firmware in firmwares().items():
                 pair = Pair(arguments[0], release, firmware, Path(folder))
                 if "--random" in arguments:

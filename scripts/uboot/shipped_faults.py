@@ -26,8 +26,12 @@ from model.texts import BUILTINS  # noqa: E402
 PAGE = TOP / "docs/boards.md"
 RELEASES = {"bookworm": "2023.01", "trixie": "2025.01"}
 MARK = "<!-- made by scripts/uboot/shipped_faults.py -->\n"
-# The script, the name, and the rest of a line of a check or a run
-FOUND = re.compile(r"(?:(\w+):\d+:\d+: (?:error|warning): [^`]*`(?:run )?(?:\$\{)?([\w.-]+)\}?`|## Error: \"(\w+)\" not defined).*")
+# The script and the name of a line of a check or a run
+FOUND = re.compile(
+    r"(?P<script>\w+):\d+:\d+: (?:error|warning): [^`]*`(?:run )?(?:\$\{)?(?P<name>[\w.-]+)\}?`.*|## Error: \"(?P<lost>\w+)\" not defined.*"
+)
+# A finding of a check with a place, which two more lines show
+PLACED = re.compile(r"\w+:\d+:\d+: (?:error|warning|note): ")
 # What begins as a script does: a word and a blank, a separator or the end, or assignments and another command
 BEGINS = re.compile(rb"(?:\w+=[^ ;]*; *)*([a-z][\w.]*)(?:[ ;]|$)")
 # What begins so and is no script: lists, and what the kernel is told
@@ -137,11 +141,25 @@ def scripts_of(variables, commands):
 
 
 def called(program, folder, how, board, *scripts):
-    """A call as the page shows it, which needs no size there, and the lines that it prints on standard output."""
+    """A call as the page shows it, which needs no size there, and the lines that it prints on standard output, those of a finding together."""
     answers = f"--stubs {board}.stubs" if how == "check" else f"--board {board}.nothing"
     words = f"{how} --env {board}.txt {answers} {' '.join(scripts)}"
     found = subprocess.run([program, *words.split(), "--size=40000"], cwd=folder, capture_output=True, text=True, errors="replace")
-    return f"fwenv {words}", found.stdout.splitlines()
+    return f"fwenv {words}", list(together(found.stdout.splitlines()))
+
+
+def together(lines):
+    """The lines, a finding's with the two below it."""
+    while lines:
+        count = 3 if PLACED.match(lines[0]) else 1
+        yield "\n".join(lines[:count])
+        lines = lines[count:]
+
+
+def script_and_name(lines):
+    """Of which script and name a finding is; None if it isn't understood."""
+    match = FOUND.fullmatch(lines.partition("\n")[0])
+    return match and (match["script"], match["name"] or match["lost"])
 
 
 def look(program, folder, path):
@@ -158,10 +176,10 @@ def look(program, folder, path):
         lines += [("run", start.decode(), line) for line in called(program, below, "run", name, start.decode())[1] if "not defined" in line]
     for how, start, line in lines:
         # what another release of U-Boot, or another shell, does in a different way is no fault
-        if line.endswith(("[exit]", "[and-or]")):
+        if line.partition("\n")[0].endswith(("[exit]", "[and-or]", "[empty-assignment]")):
             continue
-        if match := FOUND.fullmatch(line):
-            found.lines[how, match[1] or start, match[2] or match[3]].append(line)
+        if names := script_and_name(line):
+            found.lines[how, names[0] or start, names[1]].append(line)
         else:
             check(f"{path.name}: {line}", False, "it is not understood")
     return found
@@ -200,10 +218,10 @@ def shown(program, folder, fault, boards):
     command, lines = called(program, f"{folder}/{board.release}", fault.how, board.name, *fault.script.split())
     firsts = {}
     for line in lines:
-        match = FOUND.fullmatch(line)
-        if match and (match[2] or match[3]) in fault.names.split():
-            firsts.setdefault((match[1], match[2] or match[3]), line)
-    names, tail = " and ".join(f"`{name}`" for name in fault.boards.split()), " | grep Error" if fault.how == "run" else ""
+        names = script_and_name(line)
+        if names and names[1] in fault.names.split():
+            firsts.setdefault(names, line.partition("\n")[0])
+    names, tail = " and ".join(f"`{name}`" for name in fault.boards.split()), " | grep Error" if fault.how == "run" else " | grep ]$"
     head = f"**{names}{f', {releases[0]}' if len(releases) == 1 else ''}: {fault.title}.** {fault.means}"
     return "\n".join((head, "", "```text", f"$ {command}{tail}", *firsts.values(), "```", ""))
 

@@ -19,14 +19,28 @@ pub enum Severity {
 pub enum FindingKind {
     /// A carriage return in a script.
     CarriageReturn,
+    /// A backslash in a variable's script, which a board drops when it loads the variable.
+    Backslashes,
     /// A text that is no script.
     Syntax,
+    /// A backslash at a line's end, where a board doesn't join the lines.
+    JoinedLines,
+    /// A `&&` or `||` at a line's end, behind which a board runs the next line.
+    LooseOperators,
+    /// A `'` in double quotes, where a board begins or ends a quote at it.
+    Apostrophes,
+    /// A backslash in quotes, which a board keeps or drops in another way.
+    BackslashesInQuotes,
+    /// A `$` and a name beginning with `_`, which a board doesn't substitute.
+    UnderscoredNames,
     /// What another shell has and this one doesn't.
     OtherShell,
     /// A command that is neither a builtin nor a stand-in.
     UnknownCommand,
     /// An `exit`, which older boards ignore.
     Exit,
+    /// More words of a command than older boards take.
+    ManyWords,
     /// A chain of `&&` and `||`, of which a board skips more than other shells.
     AndOr,
     /// An `if` without `else`, whose status is asked for.
@@ -43,12 +57,20 @@ pub enum FindingKind {
     RunUndefined,
     /// A `run` of any variable, which isn't followed.
     RunUnknown,
+    /// A `setenv` of an empty value, with which a board keeps the variable.
+    EmptyValue,
     /// An assignment to a name that the environment holds.
     HiddenAssignment,
+    /// An assignment of nothing, by which older boards leave a value that is there.
+    EmptyAssignment,
     /// A word of a `for` with a blank in quotes, at which boards cut.
     QuotedFor,
+    /// A reserved word among those of a `for`, which boards refuse.
+    ReservedWordsOfFor,
     /// A substitution of a name that nothing defines.
     UndefinedName,
+    /// A substitution of a value that a board reads anew.
+    RereadValue,
     /// A name that the check was given, of no variable.
     NoVariable,
     /// No script to look at.
@@ -58,12 +80,19 @@ pub enum FindingKind {
 }
 
 /// All of them, in the order of the table.
-const ALL: [FindingKind; 19] = [
+const ALL: [FindingKind; 30] = [
     FindingKind::CarriageReturn,
+    FindingKind::Backslashes,
     FindingKind::Syntax,
+    FindingKind::JoinedLines,
+    FindingKind::LooseOperators,
+    FindingKind::Apostrophes,
+    FindingKind::BackslashesInQuotes,
+    FindingKind::UnderscoredNames,
     FindingKind::OtherShell,
     FindingKind::UnknownCommand,
     FindingKind::Exit,
+    FindingKind::ManyWords,
     FindingKind::AndOr,
     FindingKind::IfStatus,
     FindingKind::LoopStatus,
@@ -72,9 +101,13 @@ const ALL: [FindingKind; 19] = [
     FindingKind::TestOperator,
     FindingKind::RunUndefined,
     FindingKind::RunUnknown,
+    FindingKind::EmptyValue,
     FindingKind::HiddenAssignment,
+    FindingKind::EmptyAssignment,
     FindingKind::QuotedFor,
+    FindingKind::ReservedWordsOfFor,
     FindingKind::UndefinedName,
+    FindingKind::RereadValue,
     FindingKind::NoVariable,
     FindingKind::NoScript,
     FindingKind::ValueType,
@@ -87,10 +120,17 @@ impl FindingKind {
     {
         match self {
             FindingKind::CarriageReturn => "carriage-return",
+            FindingKind::Backslashes => "backslashes",
             FindingKind::Syntax => "syntax",
+            FindingKind::JoinedLines => "joined-lines",
+            FindingKind::LooseOperators => "loose-operators",
+            FindingKind::Apostrophes => "apostrophes",
+            FindingKind::BackslashesInQuotes => "backslashes-in-quotes",
+            FindingKind::UnderscoredNames => "underscored-names",
             FindingKind::OtherShell => "other-shell",
             FindingKind::UnknownCommand => "unknown-command",
             FindingKind::Exit => "exit",
+            FindingKind::ManyWords => "many-words",
             FindingKind::AndOr => "and-or",
             FindingKind::IfStatus => "if-status",
             FindingKind::LoopStatus => "loop-status",
@@ -99,9 +139,13 @@ impl FindingKind {
             FindingKind::TestOperator => "test-operator",
             FindingKind::RunUndefined => "run-undefined",
             FindingKind::RunUnknown => "run-unknown",
+            FindingKind::EmptyValue => "empty-value",
             FindingKind::HiddenAssignment => "hidden-assignment",
+            FindingKind::EmptyAssignment => "empty-assignment",
             FindingKind::QuotedFor => "quoted-for",
+            FindingKind::ReservedWordsOfFor => "reserved-words-of-for",
             FindingKind::UndefinedName => "undefined-name",
+            FindingKind::RereadValue => "reread-value",
             FindingKind::NoVariable => "no-variable",
             FindingKind::NoScript => "no-script",
             FindingKind::ValueType => "value-type",
@@ -114,15 +158,25 @@ impl FindingKind {
     {
         match self {
             FindingKind::CarriageReturn
+            | FindingKind::Backslashes
+            | FindingKind::JoinedLines
+            | FindingKind::LooseOperators
+            | FindingKind::Apostrophes
+            | FindingKind::BackslashesInQuotes
+            | FindingKind::UnderscoredNames
             | FindingKind::Exit
+            | FindingKind::ManyWords
             | FindingKind::AndOr
             | FindingKind::IfStatus
             | FindingKind::LoopStatus
             | FindingKind::StaleStatus
+            | FindingKind::EmptyValue
             | FindingKind::HiddenAssignment
             | FindingKind::QuotedFor
-            | FindingKind::UndefinedName => Severity::Warning,
-            FindingKind::RunUnknown => Severity::Note,
+            | FindingKind::ReservedWordsOfFor
+            | FindingKind::UndefinedName
+            | FindingKind::RereadValue => Severity::Warning,
+            FindingKind::RunUnknown | FindingKind::EmptyAssignment => Severity::Note,
             _ => Severity::Error,
         }
     }

@@ -40,7 +40,7 @@ wrong_code texts = find (λ text. not (is_code text)) texts
 -- what is wrong with it
 abbrev pub bad_code : Text
 bad_code =
-    codes "' for '--ignore <CODE>'\n  [possible values: carriage-return, syntax, other-shell, unknown-command, exit, and-or, if-status, loop-status, stale-status, wrong-use, test-operator, run-undefined, run-unknown, hidden-assignment, quoted-for, undefined-name, no-variable, no-script, value-type]\n\nFor more information, try '--help'.\n"
+    codes "' for '--ignore <CODE>'\n  [possible values: carriage-return, backslashes, syntax, joined-lines, loose-operators, apostrophes, backslashes-in-quotes, underscored-names, other-shell, unknown-command, exit, many-words, and-or, if-status, loop-status, stale-status, wrong-use, test-operator, run-undefined, run-unknown, empty-value, hidden-assignment, empty-assignment, quoted-for, reserved-words-of-for, undefined-name, reread-value, no-variable, no-script, value-type]\n\nFor more information, try '--help'.\n"
 
 abbrev pub choice_by : List Row → Format → Choice
 choice_by rows format = record { ignored = all_values (codes "ignore") rows; strict = is_given (codes "strict") rows; all = is_given (codes "all") rows; format = format }

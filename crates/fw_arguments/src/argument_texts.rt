@@ -142,6 +142,8 @@ pub(crate) const BAD_FORMAT: &[u8] =
 
 /// What is wrong with a code of a kind of finding, after it.
 pub(crate) const BAD_CODE: &[u8] =
-    b"' for '--ignore <CODE>'\n  [possible values: carriage-return, syntax, other-shell, \
-    unknown-command, exit, and-or, if-status, loop-status, stale-status, wrong-use, test-operator, run-undefined, run-unknown, hidden-assignment, quoted-for, undefined-name, no-variable, \
-    no-script, value-type]\n\nFor more information, try '--help'.\n";
+    b"' for '--ignore <CODE>'\n  [possible values: carriage-return, backslashes, syntax, joined-lines, \
+    loose-operators, apostrophes, backslashes-in-quotes, underscored-names, other-shell, \
+    unknown-command, exit, many-words, and-or, if-status, loop-status, stale-status, wrong-use, \
+    test-operator, run-undefined, run-unknown, empty-value, hidden-assignment, empty-assignment, \
+    quoted-for, reserved-words-of-for, undefined-name, reread-value, no-variable, no-script, value-type]\n\nFor more information, try '--help'.\n";

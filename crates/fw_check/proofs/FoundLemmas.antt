@@ -3,10 +3,10 @@ use Rattle.std.proofs.Common.{◌≡◌, ℕ, Bool, true, List, [], ◌∷◌, �
 use Rattle.std.specs.Prelude.{OnOk, Result, Ok, Err}
 use Rattle.std.specs.List.{list_any, position_or_len}
 use Rattle.std.proofs.lemmas.Grind.{fold-append}
-use Rattle.memchr.specs.Find.{IsFirstByte}
+use Rattle.memchr.specs.Find.{IsFirstByte, is_byte}
 use Rattle.text_parts.proofs.CutLemmas.{list_any-answer, position_or_len-found}
-use Rattle.finding_kinds.specs.declared.kinds.FindingKind.TheVariants as kind
-use Rattle.fw_check.specs.Findings.{Finding, Report, found_at, is_return, return_findings, return_sentence, with_finding, with_findings}
+use Rattle.finding_kinds.specs.declared.kinds.FindingKind.{FindingKind}
+use Rattle.fw_check.specs.Findings.{Finding, Report, first_findings, found_at, with_finding, with_findings}
 use Rattle.fw_check.specs.Found.{Found, found_more}
 use Rattle.fw_check.specs.Origins.{Origin}
 
@@ -22,18 +22,19 @@ found-none f = ap (λ (r : Report). let g : Found = record f { report = r } in g
 pub found-append : (f : Found) (xs ys : List Finding) → found_more (found_more f xs) ys ≡ found_more f (xs ++ ys)
 found-append f xs ys = ap (λ (r : Report). let g : Found = record f { report = r } in g) (report-append f.origin f.text f.report xs ys)
 
--- ---- the first carriage return
+-- ---- the first of a byte
 
-returns-so : (b : Bool) (count n : ℕ) → true ≡ b → n ≡ count → (if b then found_at n kind.CarriageReturn return_sentence ∷ [] else []) ≡ found_at count kind.CarriageReturn return_sentence ∷ []
-returns-so b count n h e = λ i. if sym h i then found_at (e i) kind.CarriageReturn return_sentence ∷ [] else []
+module _ (byte : ℕ) (k : FindingKind) (sentence : List ℕ) where
+  first-so : (b : Bool) (count n : ℕ) → true ≡ b → n ≡ count → (if b then found_at n k sentence ∷ [] else []) ≡ found_at count k sentence ∷ []
+  first-so b count n h e = λ i. if sym h i then found_at (e i) k sentence ∷ [] else []
 
-pub return-found : (text : List ℕ) (count : ℕ) → IsFirstByte is_return text (Some count) → return_findings text ≡ found_at count kind.CarriageReturn return_sentence ∷ []
-return-found text count h =
-    returns-so (list_any is_return text) count (position_or_len is_return text) (list_any-answer is_return text (Some count) h) (position_or_len-found is_return text count h)
+  pub first-found : (text : List ℕ) (count : ℕ) → IsFirstByte (is_byte byte) text (Some count) → first_findings byte k sentence text ≡ found_at count k sentence ∷ []
+  first-found text count h =
+      first-so (list_any (is_byte byte) text) count (position_or_len (is_byte byte) text) (list_any-answer (is_byte byte) text (Some count) h) (position_or_len-found (is_byte byte) text count h)
 
-pub return-none : (text : List ℕ) → IsFirstByte is_return text None → return_findings text ≡ []
-return-none text h =
-    ap (λ (b : Bool). if b then found_at (position_or_len is_return text) kind.CarriageReturn return_sentence ∷ [] else []) (sym (list_any-answer is_return text None h))
+  pub first-none : (text : List ℕ) → IsFirstByte (is_byte byte) text None → first_findings byte k sentence text ≡ []
+  first-none text h =
+      ap (λ (b : Bool). if b then found_at (position_or_len (is_byte byte) text) k sentence ∷ [] else []) (sym (list_any-answer (is_byte byte) text None h))
 
 -- ---- what an `Ok` tells
 

@@ -3,6 +3,9 @@ mod FoundLemmas
 mod SummaryLemmas
 mod LiteralLemmas
 mod StatusLemmas
+mod ExcerptLemmas
+mod RereadLemmas
+mod ManyLemmas
 mod ForeignLemmas
 mod ConstantLemmas
 mod NameLemmas
@@ -11,6 +14,7 @@ mod FollowLemmas
 mod TypeLemmas
 mod VisitLemmas
 pub mod Rows
+pub mod DifferenceRows
 mod LineLemmas
 mod AskLemmas
 mod EntryPlaceLemmas

@@ -131,7 +131,7 @@ foreseen_first_row = refl
 
 -- an empty environment, in which a script gives `a` to something, and foresees `c`
 abbrev known : Known
-known = record { env = empty; given = is_among (codes "a" ∷ []); foreseen = is_among (codes "c" ∷ []); written = is_among (codes "d" ∷ []) }
+known = record { env = empty; given = is_among (codes "a" ∷ []); foreseen = is_among (codes "c" ∷ []); written = is_among (codes "d" ∷ []); reread = is_among (codes "e" ∷ []); recut = is_among (codes "f" ∷ []) }
 
 -- by what the environment has
 abbrev found : List ℕ → Option (List ℕ) → List Finding

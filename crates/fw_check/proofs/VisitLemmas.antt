@@ -15,7 +15,7 @@ use Rattle.finding_kinds.specs.declared.kinds.FindingKind.TheVariants as kind
 use Rattle.fw_check.specs.Checking.{AreFollowed, AreVisited, Faulty, Reports, Script, Visit, after_visit, follow_texts, in_all, in_read, known_after, origin_in, reading_findings, script_in}
 use Rattle.fw_check.specs.EntryPlaces.{EnvironmentText}
 use Rattle.fw_check.specs.Called.{Given, in_answers}
-use Rattle.fw_check.specs.Findings.{Report, fault_sentence, found_at, return_findings, with_findings, with_script}
+use Rattle.fw_check.specs.Findings.{Report, fault_sentence, found_at, return_findings, stored_findings, with_findings, with_script}
 use Rattle.fw_check.specs.Knowing.{Known}
 use Rattle.fw_check.specs.Following.{Followed, begin_all, begin_from, follow_fronts, is_among}
 use Rattle.fw_check.specs.Found.{Found, found_more}
@@ -41,14 +41,19 @@ module _ (known : Option Known) (given : Given) (asked : Bool) where
       (Faulty fault, (h.0, ap (read_in (bodies_of given.shell)) (sym same) ∙ unread h.0, subst (λ t. IsFaultOf t fault) same (first h.0)), h.1)
   read-fault (Err e) source text fault old new same unread first h = tt
 
-  pub script-checked : (origin : Origin) (text : List ℕ) (report counted after : Report) (first second third : Found) → counted ≡ with_script report → first ≡ record { origin = origin; text = text; report = counted } →
-      second ≡ found_more first (return_findings first.text) → Reads known given asked text second third → after ≡ third.report → GoesOn known given origin asked text report after
-  script-checked origin text report counted after first second third one begun returned h done =
+  pub script-checked : (origin : Origin) (text : List ℕ) (report counted after : Report) (first second third fourth : Found) → counted ≡ with_script report →
+      first ≡ record { origin = origin; text = text; report = counted } → second ≡ found_more first (return_findings first.text) →
+      third ≡ found_more second (stored_findings second.origin second.text) → Reads known given asked text third fourth → after ≡ fourth.report → GoesOn known given origin asked text report after
+  script-checked origin text report counted after first second third fourth one begun returned stored h done =
       let ys = reading_findings known given text h.0 in
-      let two = h.2 ∙ ap (λ (f : Found). found_more f ys) returned ∙ found-append first (return_findings first.text) ys
-      ∙ ap (λ (f : Found). found_more f (return_findings f.text ++ ys)) begun in
-      let ends = λ (r : Report). with_findings origin text r (return_findings text ++ ys) in
-      (h.0, h.1, done ∙ ap (λ (f : Found). f.report) two ∙ ap ends one)
+      let returns : Found → Found = λ f. found_more f (return_findings f.text) in
+      let stores : Found → Found = λ f. found_more f (stored_findings f.origin f.text) in
+      let start : Report → Found = λ r. record { origin = origin; text = text; report = r } in
+      let all = h.2 ∙ ap (λ (f : Found). found_more f ys) (stored ∙ ap stores (returned ∙ ap returns (begun ∙ ap start one))) in
+      let joined = found-append (returns (start (with_script report))) (stored_findings origin text) ys
+      ∙ found-append (start (with_script report)) (return_findings text) (stored_findings origin text ++ ys) in
+      let assoc = append_assoc (return_findings text) (stored_findings origin text) ys in
+      (h.0, h.1, done ∙ ap (λ (f : Found). f.report) (all ∙ joined) ∙ ap (with_findings origin text (with_script report)) (sym assoc))
 
 -- a visit, and then the others
 module _ (file : Option EnvironmentText) (known : Option Known) (given : Given) (asked : List ℕ → Bool) where

@@ -1,6 +1,6 @@
 -- What a check of an environment prints (docs/check.md).
 use Rattle.std.specs.Prelude.{◌≡◌, ◌≢◌, ℕ, ◌==◌, suc, ◌&&◌, ◌||◌, Bool, true, false, not, List, [], ◌∷◌, ◌++◌, map, fold, slice_get, codes, Option, Some, None, unwrap_or, if◌then◌else◌}
-use Rattle.std.specs.List.{AllByRecursion, flat_map}
+use Rattle.std.specs.List.{AllByRecursion, flat_map, list_any}
 use Rattle.std.specs.FinMap.{entries, get}
 use Rattle.finding_kinds.specs.Choices.{Choice}
 use Rattle.finding_kinds.specs.declared.choice.Format.{Format}
@@ -28,10 +28,11 @@ use Rattle.fw_check.specs.Following.{Followed, follow_fronts, is_among, is_set}
 use Rattle.fw_check.specs.Literals.{Front}
 use Rattle.fw_check.specs.Naming.{asked_in, foreseen_in, given_in, run_in, written_in}
 use Rattle.fw_check.specs.EntryPlaces.{EnvironmentText}
-use Rattle.fw_check.specs.Findings.{Finding, fault_sentence, found_at, return_findings, item_findings, Report, no_lines, report_end, with_alone, with_findings, with_placed, with_script}
-use Rattle.fw_check.specs.Knowing.{Known}
+use Rattle.fw_check.specs.Findings.{Finding, fault_sentence, found_at, return_findings, item_findings, Report, no_lines, report_end, stored_findings, with_alone, with_findings, with_placed, with_script}
+use Rattle.fw_check.specs.Knowing.{Known, is_recut, names_by, rereads}
 use Rattle.fw_check.specs.Lines.{Variable, Whole}
 use Rattle.fw_check.specs.Origins.{Origin, origin_of, subject_of, value_place}
+use Rattle.fw_check.specs.Quoting.{quoting_findings}
 use Rattle.fw_check.specs.Summaries.{summary}
 
 -- ---- one script
@@ -49,11 +50,11 @@ IsReading bodies asked text (Script items) = AreItemsOf bodies asked text items
 
 abbrev pub reading_findings : Option Known → Given → List ℕ → Reading → List Finding
 reading_findings known given text (Faulty fault) = found_at fault.place kind.Syntax (fault_sentence fault.kind) ∷ []
-reading_findings known given text (Script items) = flat_map (item_findings known given (written text)) items
+reading_findings known given text (Script items) = quoting_findings text ++ flat_map (item_findings known given (written text)) items
 
--- the first carriage return, and what is found from the start of the script on
-abbrev pub findings : Option Known → Given → List ℕ → Reading → List Finding
-findings known given text reading = return_findings text ++ reading_findings known given text reading
+-- the first carriage return, the first backslash of a variable's script, and what is found from the start of the script on
+abbrev pub findings : Option Known → Given → Origin → List ℕ → Reading → List Finding
+findings known given origin text reading = return_findings text ++ stored_findings origin text ++ reading_findings known given text reading
 
 -- ---- what is printed
 
@@ -125,6 +126,8 @@ known_after given env texts visited = record {
   given = is_among (given.known ++ in_read (given_in given) given env texts visited);
   foreseen = is_among (in_read (foreseen_in given) given env texts visited);
   written = is_among (in_read (written_in given) given env texts visited);
+  reread = is_among (names_by (list_any rereads) (entries env));
+  recut = is_among (names_by is_recut (entries env));
 }
 
 -- the names of the scripts whose statuses these texts of files and these scripts ask for
@@ -153,7 +156,7 @@ origin_in report file name = origin_of report.choice.format file name
 
 abbrev pub after_visit : Environment → Option EnvironmentText → Option Known → Given → Report → Visit → Report
 after_visit env file known given report v =
-    with_findings (origin_in report file v.name) (script_in env v.name) (with_script report) (findings known given (script_in env v.name) v.reading)
+    with_findings (origin_in report file v.name) (script_in env v.name) (with_script report) (findings known given (origin_in report file v.name) (script_in env v.name) v.reading)
 
 -- with what is found in the scripts of these names, `report` becomes `final`
 abbrev pub Reports : Environment → Option EnvironmentText → Option Known → Given → (asked : List ℕ → Bool) → List (List ℕ) → Report → Report → Type 0

@@ -1,6 +1,7 @@
 -- What is found in a script, and the lines that report it (docs/check.md).
-use Rattle.std.specs.Prelude.{ℕ, ◌==◌, ◌+◌, ◌-◌, ◌^◌, ◌&&◌, ◌||◌, min, nat_le, not, Bool, true, false, List, [], ◌∷◌, ◌++◌, length, fold, codes, Option, Some, None, is_some, if◌then◌else◌}
+use Rattle.std.specs.Prelude.{ℕ, ◌==◌, ◌+◌, ◌-◌, ◌^◌, ◌&&◌, ◌||◌, drop, min, nat_le, not, Bool, true, false, List, [], ◌∷◌, ◌++◌, length, fold, codes, Option, Some, None, is_some, if◌then◌else◌}
 use Rattle.std.specs.List.{flat_map, fold, list_any, position_or_len}
+use Rattle.memchr.specs.Find.{is_byte}
 use Rattle.hush_words.specs.Parts.{Written, word_atoms}
 use Rattle.hush_words.specs.Words.{Atom}
 use Rattle.hush_words.specs.declared.parts.Word.{Word}
@@ -17,14 +18,14 @@ use Rattle.finding_kinds.specs.declared.kinds.FindingKind.TheVariants as kind
 use Rattle.finding_kinds.specs.declared.kinds.Severity.{Severity}
 use Rattle.finding_kinds.specs.declared.kinds.Severity.TheVariants as severity
 use Rattle.fw_engines.specs.declared.text_places.Place.{Place}
-use Rattle.fw_check.specs.Called.{Given, called_by}
+use Rattle.fw_check.specs.Called.{Given, called_by, is_after_env}
 use Rattle.fw_check.specs.Commands.{begin_in_parentheses, begin_with_comparison, command_fault, command_sentence, kind_of}
 use Rattle.fw_check.specs.Foreign.{foreign_of, foreign_sentence, plain_of}
 use Rattle.fw_check.specs.JsonLines.{line_in}
 use Rattle.fw_check.specs.Lines.{Line, Subject}
-use Rattle.fw_check.specs.Origins.{Origin, place_in, subject_of}
-use Rattle.fw_check.specs.Literals.{Front, front_of, is_called, is_mark, is_shown, literal_of, substituted}
-use Rattle.fw_check.specs.Knowing.{Known, field_of, is_defined, is_lacking, is_undefined, is_written}
+use Rattle.fw_check.specs.Origins.{Origin, is_stored, place_in, subject_of}
+use Rattle.fw_check.specs.Literals.{Front, front_of, is_called, is_mark, is_shown, is_word_of, literal_of, substituted}
+use Rattle.fw_check.specs.Knowing.{Known, field_of, is_defined, is_lacking, is_undefined, is_written, reread_names}
 use Rattle.fw_check.specs.Misuse.{misuse_of, misuse_sentence}
 use Rattle.fw_check.specs.Naming.{is_exit, is_run, is_test}
 use Rattle.fw_check.specs.Operators.{ATerm, Expected, after_word, is_broken, wrong_in}
@@ -48,7 +49,7 @@ found_at count kind sentence = record { count = count; kind = kind; sentence = s
 
 -- its line in a script with this text
 abbrev pub line_at : Origin → (text : List ℕ) → Finding → Line
-line_at origin text f = record { subject = subject_of origin; place = Some (place_in origin text f.count); kind = f.kind; sentence = f.sentence }
+line_at origin text f = record { subject = subject_of origin; place = Some (place_in origin text f.count); kind = f.kind; sentence = f.sentence; spot = Some (record { text = text; count = f.count }) }
 
 -- ---- the report
 
@@ -120,7 +121,7 @@ report_end false = []
 
 -- one more line, of what is in no script
 abbrev pub with_placed : Report → Subject → Option Place → FindingKind → (sentence : List ℕ) → Report
-with_placed report subject place k sentence = with_line report (record { subject = subject; place = place; kind = k; sentence = sentence })
+with_placed report subject place k sentence = with_line report (record { subject = subject; place = place; kind = k; sentence = sentence; spot = None })
 
 abbrev pub with_alone : Report → Subject → FindingKind → (sentence : List ℕ) → Report
 with_alone report subject k sentence = with_placed report subject None k sentence
@@ -141,15 +142,19 @@ fault_sentence fault.Memory = codes "out of memory (Memory)"
 
 -- ---- carriage returns
 
-abbrev pub is_return : ℕ → Bool
-is_return b = b == 13
+-- the first such byte of a text
+abbrev pub first_findings : (byte : ℕ) → FindingKind → (sentence text : List ℕ) → List Finding
+first_findings byte k sentence text = if list_any (is_byte byte) text then found_at (position_or_len (is_byte byte) text) k sentence ∷ [] else []
 
-abbrev pub return_sentence : List ℕ
-return_sentence = codes "a carriage return stands in the script"
-
--- the first carriage return of a text
 abbrev pub return_findings : List ℕ → List Finding
-return_findings text = if list_any is_return text then found_at (position_or_len is_return text) kind.CarriageReturn return_sentence ∷ [] else []
+return_findings text = first_findings 13 kind.CarriageReturn (codes "a carriage return stands in the script") text
+
+-- ---- backslashes: a board drops them when it loads a variable, and not in the script of a file
+
+abbrev pub stored_findings : Origin → List ℕ → List Finding
+stored_findings origin text =
+    if is_stored origin then first_findings 92 kind.Backslashes (codes "a board drops this backslash when it loads the variable") text
+    else []
 
 -- ---- statuses that shells leave in different ways
 
@@ -226,19 +231,12 @@ foreign_findings text word = foreign_if word.start (foreign_of (plain_of (word_a
 abbrev pub is_free : Option (List ℕ) → Bool
 is_free called = is_called (codes "echo") called || is_test called
 
-abbrev pub arguments_foreign : Given → Written → List Word → List Finding
-arguments_foreign given text [] = []
-arguments_foreign given text (word ∷ words) =
-    if is_free (called_by given (word_atoms text word)) then [] else flat_map (foreign_findings text) words
+abbrev pub arguments_foreign : (called : Option (List ℕ)) → Written → List Word → List Finding
+arguments_foreign called text words = if is_free called then [] else flat_map (foreign_findings text) words
 
 abbrev pub misuse_findings : ℕ → Option Misuse → List Finding
 misuse_findings count None = []
 misuse_findings count (Some misuse) = found_at count kind.WrongUse (misuse_sentence misuse) ∷ []
-
-abbrev pub use_findings : Option Known → Given → Written → List Word → List Finding
-use_findings known given text [] = []
-use_findings known given text (word ∷ words) =
-    misuse_findings word.start (misuse_of known given.shell (called_by given (word_atoms text word)) (words_in text words))
 
 -- an `exit` ends nothing on a board with a U-Boot before 2025
 abbrev pub exit_sentence : List ℕ
@@ -247,9 +245,16 @@ exit_sentence = codes "U-Boot before 2025 ignores `exit` and goes on"
 abbrev pub exit_if : Bool → ℕ → List Finding
 exit_if exits count = if exits then found_at count kind.Exit exit_sentence ∷ [] else []
 
-abbrev pub exit_findings : Given → Written → List Word → List Finding
-exit_findings given text [] = []
-exit_findings given text (word ∷ words) = exit_if (is_exit (called_by given (word_atoms text word))) word.start
+-- more words than a U-Boot before 2025 takes: it is told at the first of them
+abbrev pub many_sentence : List ℕ
+many_sentence = codes "U-Boot before 2025 takes 16 words of a command at most"
+
+abbrev pub many_from : List Word → List Finding
+many_from [] = []
+many_from (word ∷ words) = found_at word.start kind.ManyWords many_sentence ∷ []
+
+abbrev pub many_findings : List Word → List Finding
+many_findings words = many_from (drop 16 words)
 
 -- the strict shell takes the words as false
 abbrev pub operator_end : Shell → List ℕ
@@ -274,10 +279,8 @@ after_field shell text expected word = after_word shell expected word.start (lit
 abbrev pub test_findings : Shell → ℕ → Written → List Word → List Finding
 test_findings shell count text words = tested_findings shell count (fold (after_field shell text) ATerm words)
 
-abbrev pub operator_findings : Given → Written → List Word → List Finding
-operator_findings given text [] = []
-operator_findings given text (word ∷ words) =
-    if is_test (called_by given (word_atoms text word)) then test_findings given.shell word.start text words else []
+abbrev pub operator_findings : Shell → (tests : Bool) → ℕ → Written → List Word → List Finding
+operator_findings shell tests count text words = if tests then test_findings shell count text words else []
 
 abbrev pub undefined_sentence : List ℕ → List ℕ
 undefined_sentence name = codes "`run " ++ name ++ codes "` names a variable that is not defined"
@@ -316,10 +319,46 @@ argument_findings known text word =
     constant_findings known word.start (front_of (word_atoms text word)) (field_in_substitutions known (word_atoms text word))
 
 -- what is found in the arguments of `run`
-abbrev pub run_findings : Option Known → Given → Written → List Word → List Finding
-run_findings known given text [] = []
-run_findings known given text (word ∷ words) =
-    if is_run (called_by given (word_atoms text word)) then flat_map (argument_findings known text) words else []
+abbrev pub run_findings : Option Known → (runs : Bool) → Written → List Word → List Finding
+run_findings known runs text words = if runs then flat_map (argument_findings known text) words else []
+
+-- ---- empty values
+
+-- the words behind an option, if it is there
+abbrev pub after_force : Written → List Word → List Word
+after_force text [] = []
+after_force text (word ∷ words) = if is_called (codes "-f") (literal_of (word_atoms text word)) then words else word ∷ words
+
+abbrev pub after_set : Shell → Written → List Word → List Word
+after_set shell text [] = []
+after_set shell text (word ∷ words) = if is_after_env shell 2 (codes "set") (literal_of (word_atoms text word)) then after_force text words else []
+
+-- the name and the value that a command of this name sets: `setenv`, or `env set`
+abbrev pub set_words : Shell → (called : Option (List ℕ)) → Written → List Word → List Word
+set_words shell called text words =
+    if is_called (codes "setenv") called then after_force text words
+    else if is_called (codes "env") called then after_set shell text words
+    else []
+
+abbrev pub empty_sentence : List ℕ
+empty_sentence = codes "a board keeps the variable, with an empty value"
+
+abbrev pub value_findings : Written → Word → List Finding
+value_findings text value = if is_called [] (literal_of (word_atoms text value)) then found_at value.start kind.EmptyValue empty_sentence ∷ [] else []
+
+-- of one value alone: several have spaces between them
+abbrev pub only_value : List Word → Option Word
+only_value [] = None
+only_value (name ∷ []) = None
+only_value (name ∷ value ∷ []) = Some value
+only_value (name ∷ value ∷ more ∷ words) = None
+
+abbrev pub value_if : Written → Option Word → List Finding
+value_if text None = []
+value_if text (Some value) = value_findings text value
+
+abbrev pub empty_findings : Shell → (called : Option (List ℕ)) → Written → List Word → List Finding
+empty_findings shell called text words = value_if text (only_value (set_words shell called text words))
 
 -- ---- substitutions
 
@@ -343,6 +382,18 @@ names_findings known count last (name ∷ names) =
 
 abbrev pub word_findings : Option Known → Written → Word → List Finding
 word_findings known text word = names_findings known word.start None (substituted (word_atoms text word))
+
+-- a value that a board reads anew
+abbrev pub reread_sentence : List ℕ → List ℕ
+reread_sentence name = codes "a board reads quotes, backslashes, newlines and ` #` in the value of `" ++ name ++ codes "` anew"
+
+abbrev pub reread_if : ℕ → List (List ℕ) → List Finding
+reread_if count [] = []
+reread_if count (name ∷ names) = found_at count kind.RereadValue (reread_sentence name) ∷ []
+
+-- of several in a word the first one is told; `cut`: of a simple command
+abbrev pub reread_findings : Option Known → (cut : Bool) → Written → Word → List Finding
+reread_findings known cut text word = reread_if word.start (reread_names known cut (word_atoms text word))
 
 -- ---- assignments and the heads of `for`
 
@@ -372,6 +423,13 @@ abbrev pub assigned_findings : Shell → Option Known → ℕ → Option (List �
 assigned_findings shell known count None = []
 assigned_findings shell known count (Some name) = hidden_findings shell known count name
 
+-- an assignment of nothing
+abbrev pub unset_sentence : List ℕ
+unset_sentence = codes "U-Boot before 2025 leaves the old value, if there is one"
+
+abbrev pub unset_findings : ℕ → (value : Option (List ℕ)) → List Finding
+unset_findings count value = if is_called [] value then found_at count kind.EmptyAssignment unset_sentence ∷ [] else []
+
 -- a board cuts the words of a `for` at spaces and newlines, in quotes too
 abbrev pub is_cut : ℕ → Bool
 is_cut b = b == 32 || b == 10
@@ -390,20 +448,61 @@ cut_sentence = codes "a board cuts this word of a `for` at its blanks, in quotes
 abbrev pub cut_findings : Written → Word → List Finding
 cut_findings text word = if is_cut_in (word_atoms text word) (literal_of (word_atoms text word)) then found_at word.start kind.QuotedFor cut_sentence ∷ [] else []
 
+-- a board refuses a `for` with one of these, in quotes too
+abbrev pub reserved_words : List (List ℕ)
+reserved_words =
+    codes "if" ∷ codes "then" ∷ codes "elif" ∷ codes "else" ∷ codes "fi" ∷ codes "for" ∷ codes "while" ∷ codes "until" ∷ codes "do"
+    ∷ codes "done" ∷ codes "in" ∷ []
+
+abbrev pub is_reserved : Option (List ℕ) → Bool
+is_reserved None = false
+is_reserved (Some word) = is_word_of reserved_words word
+
+abbrev pub reserved_sentence : List ℕ
+reserved_sentence = codes "a board refuses a reserved word in the list of a `for`"
+
+abbrev pub reserved_findings : Written → Word → List Finding
+reserved_findings text word = if is_reserved (literal_of (word_atoms text word)) then found_at word.start kind.ReservedWordsOfFor reserved_sentence ∷ [] else []
+
 -- ---- a whole script
 
+-- by the name of the command and its arguments
+abbrev pub use_findings : Option Known → Given → (called : Option (List ℕ)) → Written → Word → List Word → List Finding
+use_findings known given called text word words =
+    misuse_findings word.start (misuse_of known given.shell called (words_in text words))
+    ++ operator_findings given.shell (is_test called) word.start text words ++ run_findings known (is_run called) text words
+    ++ empty_findings given.shell called text words
+
+-- what is found in all words
+abbrev pub words_findings : Option Known → Written → List Word → List Finding
+words_findings known text words = flat_map (word_findings known text) words ++ flat_map (reread_findings known true text) words
+
+abbrev pub called_as : Option Known → Given → (called : Option (List ℕ)) → Written → Word → List Word → List Finding
+called_as known given called text word words =
+    arguments_foreign called text words ++ exit_if (is_exit called) word.start ++ many_findings (word ∷ words)
+    ++ use_findings known given called text word words ++ words_findings known text (word ∷ words)
+
 abbrev pub call_findings : Option Known → Given → Written → List Word → List Finding
-call_findings known given text words =
-    command_findings known given text words ++ arguments_foreign given text words ++ exit_findings given text words
-    ++ use_findings known given text words ++ operator_findings given text words
-    ++ run_findings known given text words ++ flat_map (word_findings known text) words
+call_findings known given text [] = []
+call_findings known given text (word ∷ words) =
+    command_findings known given text (word ∷ words)
+    ++ called_as known given (called_by given (word_atoms text word)) text word words
+
+abbrev pub assignment_findings : Option Known → Given → Written → (name value : Word) → List Finding
+assignment_findings known given text name value =
+    assigned_findings given.shell known name.start (literal_of (word_atoms text name))
+    ++ unset_findings name.start (literal_of (word_atoms text value)) ++ word_findings known text value
+    ++ reread_findings known false text value
+
+abbrev pub list_findings : Option Known → Written → List Word → List Finding
+list_findings known text words =
+    flat_map (cut_findings text) words ++ flat_map (reserved_findings text) words ++ flat_map (foreign_findings text) words
+    ++ flat_map (word_findings known text) words ++ flat_map (reread_findings known false text) words
 
 abbrev pub item_findings : Option Known → Given → Written → Item → List Finding
 item_findings known given text (item.Call s words) = begun_by text s words.now ++ call_findings known given text words.now
 item_findings known given text (item.Assignment s name value) =
-    setting_findings s name.start (shows_in text value)
-    ++ assigned_findings given.shell known name.start (literal_of (word_atoms text name)) ++ word_findings known text value
+    setting_findings s name.start (shows_in text value) ++ assignment_findings known given text name value
 item_findings known given text (item.Binding s name words) =
     setting_findings s name.start (list_any (shows_in text) words.now)
-    ++ assigned_findings given.shell known name.start (literal_of (word_atoms text name))
-    ++ flat_map (cut_findings text) words.now ++ flat_map (foreign_findings text) words.now ++ flat_map (word_findings known text) words.now
+    ++ assigned_findings given.shell known name.start (literal_of (word_atoms text name)) ++ list_findings known text words.now

@@ -9,6 +9,7 @@ use Rattle.finding_kinds.specs.declared.choice.Format.{Format}
 use Rattle.finding_kinds.specs.declared.choice.Format.TheVariants as format
 use Rattle.finding_kinds.specs.declared.kinds.FindingKind.{FindingKind}
 use Rattle.fw_engines.specs.declared.text_places.Place.{Place}
+use Rattle.fw_check.specs.Excerpts.{excerpt_of}
 use Rattle.fw_check.specs.Lines.{Entry, File, Line, Subject, Variable, Whole, line_text, plain_byte, severity_name}
 
 -- a text as JSON has it, in quotes. JSON has characters: what isn't UTF-8 becomes U+FFFD
@@ -66,6 +67,6 @@ json_text l = place_members l ++ told_members l
 -- ---- in each format
 
 abbrev pub line_in : Format → Line → List ℕ
-line_in format.Text l = line_text l ++ 10 ∷ []
+line_in format.Text l = line_text l ++ 10 ∷ excerpt_of l.spot
 line_in format.Gcc l = map plain_byte (line_text l) ++ 10 ∷ []
 line_in format.Json l = json_text l ++ 10 ∷ []

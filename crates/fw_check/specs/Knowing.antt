@@ -1,19 +1,21 @@
 -- What is known of variables, and texts of which all is known (docs/check.md).
-use Rattle.std.specs.Prelude.{ℕ, ◌==◌, ◌||◌, not, Bool, false, List, [], ◌∷◌, ◌++◌, codes, Option, Some, None, is_some, length, option_map, take, if◌then◌else◌}
+use Rattle.std.specs.Prelude.{ℕ, nat_le, ◌==◌, ◌&&◌, ◌||◌, not, Bool, true, false, List, [], ◌∷◌, ◌++◌, codes, map, filter, Option, Some, None, is_some, length, option_map, take, if◌then◌else◌}
 use Rattle.std.specs.FinMap.{get}
-use Rattle.std.specs.List.{prefix_len}
-use Rattle.envimg_core.specs.Environment.{Environment}
+use Rattle.std.specs.List.{list_any, prefix_len}
+use Rattle.envimg_core.specs.Environment.{Environment, Pair}
 use Rattle.hush_words.specs.Words.{Atom}
 use Rattle.hush_words.specs.Words.Atom.{Plain, Quoted, Mark, Value, Status}
 use Rattle.fw_check.specs.Literals.{is_word_of}
 
--- what is known if there is an environment: it, and whether one of the scripts checked gives a name to
--- something, foresees it, or writes its variable
+-- what is known if there is an environment: it, whether one of the scripts checked gives a name to something, foresees it, or writes
+-- its variable, and whether a board reads the value of a variable anew, or does so where it cuts words
 pub record Known : Type 0 where
   pub env : Environment
   pub given : List ℕ → Bool
   pub foreseen : List ℕ → Bool
   pub written : List ℕ → Bool
+  pub reread : List ℕ → Bool
+  pub recut : List ℕ → Bool
 
 abbrev pub is_defined : Option Known → List ℕ → Bool
 is_defined None name = false
@@ -46,10 +48,15 @@ is_lacking (Some known) name = not (is_some (get known.env name) || is_word_of s
 
 -- ---- words of which all is known
 
+-- a value that isn't too long for a name
+abbrev pub short_value : Option (List ℕ) → Option (List ℕ)
+short_value None = None
+short_value (Some value) = if nat_le (length value) 4096 then Some value else None
+
 -- the value of a variable that nothing sets but the environment
 abbrev pub constant : Option Known → List ℕ → Option (List ℕ)
 constant None name = None
-constant (Some known) name = if is_word_of set_by_commands name || known.given name then None else get known.env name
+constant (Some known) name = if is_word_of set_by_commands name || known.given name then None else short_value (get known.env name)
 
 abbrev pub joined : Option (List ℕ) → Option (List ℕ) → Option (List ℕ)
 joined None rest = None
@@ -77,3 +84,38 @@ field_in (Some bytes) = if length (first_field bytes) == 0 then None else Some (
 
 abbrev pub field_of : Option Known → List Atom → Option (List ℕ)
 field_of known atoms = field_in (text_of known atoms)
+
+-- ---- values that a board reads anew
+
+abbrev pub is_reread : Option Known → (cut : Bool) → List ℕ → Bool
+is_reread None cut name = false
+is_reread (Some known) cut name = known.reread name || cut && known.recut name
+
+-- the names in a word whose values are read so; outside of quotes, and in a simple command, the value is cut
+abbrev pub reread_names : Option Known → (cut : Bool) → List Atom → List (List ℕ)
+reread_names known cut [] = []
+reread_names known cut (Plain b ∷ atoms) = reread_names known cut atoms
+reread_names known cut (Quoted b ∷ atoms) = reread_names known cut atoms
+reread_names known cut (Mark ∷ atoms) = reread_names known cut atoms
+reread_names known cut (Value name quoted ∷ atoms) =
+    if is_reread known (cut && not quoted) name then name ∷ reread_names known cut atoms else reread_names known cut atoms
+reread_names known cut (Status quoted ∷ atoms) = reread_names known cut atoms
+
+-- a `'`, a backslash or a newline is read anew in quotes too
+abbrev pub rereads : ℕ → Bool
+rereads b = b == 39 || b == 92 || b == 10
+
+-- a `#` is, where a word may begin: `begins`
+abbrev pub has_comment : (begins : Bool) → List ℕ → Bool
+has_comment begins [] = false
+has_comment begins (b ∷ bs) = begins && b == 35 || has_comment (not (is_in_field b)) bs
+
+abbrev pub is_double_quote : ℕ → Bool
+is_double_quote b = b == 34
+
+abbrev pub is_recut : List ℕ → Bool
+is_recut value = list_any is_double_quote value || has_comment true value
+
+-- the variables of an environment whose values pass
+abbrev pub names_by : (List ℕ → Bool) → List Pair → List (List ℕ)
+names_by passes pairs = map (λ p. p.0) (filter (λ p. passes p.1) pairs)

@@ -13,11 +13,13 @@ pub mod Operators
 pub mod Commands
 pub mod Foreign
 pub mod Misuse
+pub mod Excerpts
 pub mod Lines
 pub mod JsonLines
 pub mod EntryPlaces
 pub mod Origins
 pub mod Findings
+pub mod Quoting
 pub mod Summaries
 pub mod Checking
 pub mod Reports

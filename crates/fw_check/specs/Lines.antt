@@ -1,5 +1,5 @@
 -- The lines of a check, as text (docs/check.md, "Formats").
-use Rattle.std.specs.Prelude.{ℕ, ◌==◌, ◌||◌, nat_lt, List, [], ◌∷◌, ◌++◌, codes, Option, Some, None, if◌then◌else◌}
+use Rattle.std.specs.Prelude.{ℕ, ◌==◌, ◌||◌, nat_lt, List, [], ◌∷◌, ◌++◌, codes, Option, Some, None, option_map, if◌then◌else◌}
 use Rattle.std.specs.Fmt.{decimal}
 use Rattle.std.specs.List.{concat}
 use Rattle.finding_kinds.specs.Kinds.{code_of, severity_of}
@@ -7,6 +7,7 @@ use Rattle.finding_kinds.specs.declared.kinds.FindingKind.{FindingKind}
 use Rattle.finding_kinds.specs.declared.kinds.Severity.{Severity}
 use Rattle.finding_kinds.specs.declared.kinds.Severity.TheVariants as severity
 use Rattle.fw_engines.specs.declared.text_places.Place.{Place}
+use Rattle.fw_check.specs.Excerpts.{Spot, spot_view}
 use Rattle.fw_check.specs.declared.lines.Line as lines
 use Rattle.fw_check.specs.declared.lines.Subject as subjects
 use Rattle.fw_check.specs.declared.lines.Subject.TheVariants as code
@@ -18,12 +19,13 @@ pub data Subject : Type 0 where
   Entry : (path name : List ℕ) → Subject
   Whole : Subject
 
--- a finding, as it is told: it may have no place
+-- a finding, as it is told: it may have no place, and what is in a script is at a place of its text
 pub record Line : Type 0 where
   pub subject : Subject
   pub place : Option Place
   pub kind : FindingKind
   pub sentence : List ℕ
+  pub spot : Option Spot
 
 -- ---- as text
 
@@ -69,4 +71,4 @@ subject_view (code.Entry path name) = Entry path.now name.now
 subject_view code.Whole = Whole
 
 abbrev pub line_view : lines.Line → Line
-line_view l = record { subject = subject_view l.subject; place = l.place; kind = l.kind; sentence = l.before.now ++ l.name.now ++ l.after.now }
+line_view l = record { subject = subject_view l.subject; place = l.place; kind = l.kind; sentence = l.before.now ++ l.name.now ++ l.after.now; spot = option_map spot_view l.spot }

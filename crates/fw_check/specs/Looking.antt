@@ -17,7 +17,14 @@ abbrev pub front_view : Front → literals.Front
 front_view front = record { bytes = front.bytes.items; whole = front.is_whole }
 
 abbrev pub known_view : Variables → Known
-known_view v = record { env = v.vars.now.env; given = set_of v.names.now.given; foreseen = set_of v.names.now.foreseen; written = set_of v.names.now.written }
+known_view v = record {
+  env = v.vars.now.env;
+  given = set_of v.names.now.given;
+  foreseen = set_of v.names.now.foreseen;
+  written = set_of v.names.now.written;
+  reread = set_of v.values.now.reread;
+  recut = set_of v.values.now.recut;
+}
 
 abbrev pub known_in : Lookups → Option Known
 known_in l = option_map known_view l.variables

@@ -1,11 +1,11 @@
 -- What a script is told as, and where its bytes are (docs/check.md, "Formats").
-use Rattle.std.specs.Prelude.{◌≡◌, ℕ, List, Option, Some, None}
+use Rattle.std.specs.Prelude.{◌≡◌, ℕ, Bool, true, false, List, Option, Some, None}
 use Rattle.finding_kinds.specs.declared.choice.Format.{Format}
 use Rattle.finding_kinds.specs.declared.choice.Format.TheVariants as format
 use Rattle.fw_engines.specs.TextPlaces.{place_of}
 use Rattle.fw_engines.specs.declared.text_places.Place.{Place}
 use Rattle.fw_check.specs.EntryPlaces.{EntryText, EnvironmentText, entry_of, place_in_entry, text_view}
-use Rattle.fw_check.specs.Lines.{Entry, Subject, Variable, subject_view}
+use Rattle.fw_check.specs.Lines.{Entry, File, Subject, Variable, Whole, subject_view}
 use Rattle.fw_check.specs.declared.origins.Origin as origins
 use Rattle.fw_check.specs.declared.origins.Origin.TheVariants as code
 
@@ -17,6 +17,14 @@ pub data Origin : Type 0 where
 abbrev pub subject_of : Origin → Subject
 subject_of (Own subject) = subject
 subject_of (Within t name) = Entry t.path name
+
+-- the script of a variable, which a board loads with its environment
+abbrev pub is_stored : Origin → Bool
+is_stored (Own (File path)) = false
+is_stored (Own (Variable name)) = true
+is_stored (Own (Entry path name)) = true
+is_stored (Own Whole) = false
+is_stored (Within t name) = true
 
 -- the place after `count` bytes of a script with this text
 abbrev pub place_in : Origin → (text : List ℕ) → (count : ℕ) → Place

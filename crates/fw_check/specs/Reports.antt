@@ -1,5 +1,5 @@
 -- What the steps of a check add to its report.
-use Rattle.std.specs.Prelude.{◌≡◌, ℕ, Bool, List, Option}
+use Rattle.std.specs.Prelude.{◌≡◌, ◌++◌, ℕ, Bool, List, Option}
 use Rattle.std.specs.List.{flat_map}
 use Rattle.hush_words.specs.Parts.{written}
 use Rattle.hush_run.specs.Meaning.{bodies_of}
@@ -11,12 +11,13 @@ use Rattle.fw_check.specs.Findings.{Report, item_findings, with_findings, with_s
 use Rattle.fw_check.specs.Knowing.{Known}
 use Rattle.fw_check.specs.Found.{Found, found_more}
 use Rattle.fw_check.specs.Origins.{Origin}
+use Rattle.fw_check.specs.Quoting.{quoting_findings}
 
 module _ (known : Option Known) (given : Given) where
   -- what is found in the statements of a script was added
   abbrev pub ReadsItems : (asked : Bool) → List ℕ → Found → Found → Type 0
   ReadsItems asked text old new =
-      (items : List Item) × AreItemsOf (bodies_of given.shell) asked text items × (new ≡ found_more old (flat_map (item_findings known given (written text)) items))
+      (items : List Item) × AreItemsOf (bodies_of given.shell) asked text items × (new ≡ found_more old (quoting_findings text ++ flat_map (item_findings known given (written text)) items))
 
   -- the same for what a text is read as
   abbrev pub Reads : (asked : Bool) → List ℕ → Found → Found → Type 0
@@ -24,4 +25,4 @@ module _ (known : Option Known) (given : Given) where
 
   -- a report was continued with what is found in a script, whose status is asked for or isn't
   abbrev pub GoesOn : Origin → (asked : Bool) → (text : List ℕ) → Report → Report → Type 0
-  GoesOn origin asked text old new = (reading : Reading) × IsReading (bodies_of given.shell) asked text reading × (new ≡ with_findings origin text (with_script old) (findings known given text reading))
+  GoesOn origin asked text old new = (reading : Reading) × IsReading (bodies_of given.shell) asked text reading × (new ≡ with_findings origin text (with_script old) (findings known given origin text reading))

@@ -52,7 +52,7 @@ fn field_len(bytes: &[u8]) -> usize
     bytes.iter().take_while(|b| is_in_field(**b)).count()
 }
 
-fn is_in_field(b: u8) -> bool
+pub(crate) fn is_in_field(b: u8) -> bool
     ensures { result ≡ is_in_field b }
 {
     !(b == b' ' || b == b'\t' || b == b'\n')

@@ -1,8 +1,8 @@
 //! What is found in a script, as lines.
-ghost use Rattle.std.specs.Prelude.{◌≡◌, ◌++◌, [], ◌∷◌, OnOk};
+ghost use Rattle.std.specs.Prelude.{◌≡◌, ◌++◌, [], ◌∷◌, None, OnOk};
 ghost use Rattle.finding_kinds.specs.declared.kinds.FindingKind.TheVariants as kind;
 ghost use Rattle.finding_kinds.specs.Choices.{choice_view};
-ghost use Rattle.fw_check.specs.Findings.{counted, fault_sentence, found_at, has_line, no_lines, noted, return_findings, with_alone, with_placed, with_script};
+ghost use Rattle.fw_check.specs.Findings.{counted, fault_sentence, first_findings, found_at, has_line, no_lines, noted, return_findings, stored_findings, with_alone, with_placed, with_script};
 ghost use Rattle.fw_check.specs.Found.{found_more};
 ghost use Rattle.fw_check.specs.JsonLines.{line_in};
 ghost use Rattle.fw_check.specs.Lines.{line_view, subject_view};
@@ -11,6 +11,7 @@ ghost use Rattle.fw_check.specs.Origins.{origin_view, place_in, subject_of, valu
 ghost use Rattle.fw_check.specs.Checking.{with_mistyped};
 
 use crate::entry_places::{EntryPlaces, EnvironmentText};
+use crate::excerpts::Spot;
 use crate::lines::{Line, Subject, push_line};
 use crate::origins::Origin;
 use finding_kinds::{Choice, FindingKind, Severity};
@@ -145,16 +146,16 @@ impl<'c> Report<'c> {
     }
 
     /// Appends the line of a finding that was noted, and is in no script.
-    fn push_placed(
+    fn push_placed<'l>(
         &mut self,
-        subject: Subject<'_>,
+        subject: Subject<'l>,
         place: Option<Place>,
         kind: FindingKind,
-        sentence: &[u8],
+        sentence: &'l [u8],
     ) -> Result<(), AllocError>
         ensures { OnOk result (self.new ≡ record self.old {
           text = self.old.text ++ line_in self.old.choice.format
-              (record { subject = subject_view subject.entry; place = place; kind = kind; sentence = sentence.now });
+              (record { subject = subject_view subject.entry; place = place; kind = kind; sentence = sentence.now; spot = None });
         }) }
     {
         self.push(&Line {
@@ -164,6 +165,7 @@ impl<'c> Report<'c> {
             before: sentence,
             name: b"",
             after: b"",
+            spot: None,
         })
     }
 }
@@ -235,6 +237,10 @@ impl<'s, 'c> Findings<'s, 'c> {
             before,
             name,
             after,
+            spot: Some(Spot {
+                text: self.source,
+                count,
+            }),
         })
     }
 
@@ -275,12 +281,32 @@ impl<'s, 'c> Findings<'s, 'c> {
     pub(crate) fn add_return(&mut self) -> Result<(), AllocError>
         ensures { OnOk result (self.new ≡ found_more self.old (return_findings self.old.text)) }
     {
-        match memchr(b'\r', self.source) {
-            Some(count) => self.add(count, FindingKind::CarriageReturn, RETURN, b"", b""),
+        self.add_first(b'\r', FindingKind::CarriageReturn, RETURN)
+    }
+
+    /// Adds the first backslash, if there is one in the script of a variable.
+    pub(crate) fn add_stored(&mut self) -> Result<(), AllocError>
+        ensures { OnOk result (self.new ≡ found_more self.old (stored_findings self.old.origin self.old.text)) }
+    {
+        if self.origin.is_stored() {
+            self.add_first(b'\\', FindingKind::Backslashes, STORED)
+        } else {
+            Ok(())
+        }
+    }
+
+    /// Adds the first such byte, if there is one.
+    fn add_first(&mut self, byte: u8, kind: FindingKind, sentence: &[u8]) -> Result<(), AllocError>
+        ensures { OnOk result (self.new ≡ found_more self.old (first_findings byte kind sentence.now self.old.text)) }
+    {
+        match memchr(byte, self.source) {
+            Some(count) => self.add(count, kind, sentence, b"", b""),
             None => Ok(()),
         }
     }
 }
+
+const STORED: &[u8] = b"a board drops this backslash when it loads the variable";
 
 const RETURN: &[u8] = b"a carriage return stands in the script";
 

@@ -1,8 +1,8 @@
 //! A check of boot scripts that runs nothing: what is wrong with scripts, or with those of an environment from some
 //! names on, as lines. docs/check.md states the rules.
 //!
-//! To read in this order: settings, items, literals, name_set, substitutions, commands, rules, lookups, constants; lines, json_lines, entry_places,
-//! origins, findings, summary; operators, foreign, misuse, undefined_names, differences, statuses, command_names, run_targets, statements, script_check; followed, sorted_names, menu,
+//! To read in this order: settings, items, literals, name_set, substitutions, commands, rules, lookups, constants; excerpts, lines, json_lines, entry_places,
+//! origins, findings, summary; operators, foreign, operands, misuse, undefined_names, differences, empty_values, quoting, reread, statuses, command_names, run_targets, statements, script_check; followed, sorted_names, menu,
 //! script_values, following, run_names, foreseen, written, gives, text_names; starts, reading, asking, typed_values, visits; file_checks.
 #![tactic(auto)]
 
@@ -11,7 +11,9 @@ mod command_names;
 mod commands;
 mod constants;
 mod differences;
+mod empty_values;
 mod entry_places;
+mod excerpts;
 mod file_checks;
 mod findings;
 mod followed;
@@ -27,9 +29,12 @@ mod lookups;
 mod menu;
 mod misuse;
 mod name_set;
+mod operands;
 mod operators;
 mod origins;
+mod quoting;
 mod reading;
+mod reread;
 mod rules;
 mod run_names;
 mod run_targets;

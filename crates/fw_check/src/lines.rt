@@ -4,6 +4,7 @@ ghost use Rattle.finding_kinds.specs.declared.choice.Format.TheVariants as forma
 ghost use Rattle.fw_check.specs.JsonLines.{line_in};
 ghost use Rattle.fw_check.specs.Lines.{code_text, head_text, line_text, line_view, plain_byte, said_of, severity_name, severity_text, subject_text, subject_view};
 
+use crate::excerpts::{Spot, push_excerpt};
 use crate::findings::push_three;
 use crate::json_lines::push_json;
 use finding_kinds::{FindingKind, Format, Severity};
@@ -33,6 +34,8 @@ pub(crate) struct Line<'l> {
     pub(crate) before: &'l [u8],
     pub(crate) name: &'l [u8],
     pub(crate) after: &'l [u8],
+    /// Where it is in a script.
+    pub(crate) spot: Option<Spot<'l>>,
 }
 
 /// Appends a line in a format.
@@ -57,7 +60,8 @@ fn push_as_text(text: &mut Vec<u8>, line: &Line<'_>) -> Result<(), AllocError>
         (text.new.items ≡ text.old.items ++ line_in formats.Text (line_view line.now)) }
 {
     push_whole(text, line)?;
-    text.extend_from_slice(b"\n")
+    text.extend_from_slice(b"\n")?;
+    push_excerpt(text, line.spot)
 }
 
 /// The same as compilers print it.

@@ -1,7 +1,7 @@
 //! What the names in a script are looked up in.
 ghost use Rattle.std.specs.Prelude.{◌≡◌, Some, IfOk, option_copied, option_map};
 ghost use Rattle.fw_check.specs.Commands.{command_fault, has_stand_in, is_unknown};
-ghost use Rattle.fw_check.specs.Knowing.{constant, is_defined, is_lacking, is_undefined, is_written};
+ghost use Rattle.fw_check.specs.Knowing.{constant, is_defined, is_lacking, is_reread, is_undefined, is_written, short_value};
 ghost use Rattle.hush_commands.specs.CommandNames.{name_among};
 ghost use Rattle.hush_words.specs.Parts.{word_atoms};
 ghost use Rattle.fw_check.specs.Called.{called_by, is_after_env};
@@ -10,6 +10,7 @@ ghost use Rattle.fw_check.specs.Looking.{hardware_in, known_in, known_view, rule
 use crate::commands::{CommandFault, lack_of};
 use crate::literals::{is_word_of, literal};
 use crate::name_set::ScriptNames;
+use crate::reread::RereadNames;
 use crate::rules::Rules;
 use envvars_core::Vars;
 use hush_commands::{BoardRules, Stubs, command_name, has_answer, names_command, stands_for};
@@ -22,6 +23,8 @@ pub(crate) struct Variables<'k> {
     pub(crate) vars: &'k Vars,
     /// Which names the scripts give, foresee and write.
     pub(crate) names: &'k ScriptNames,
+    /// Whose values a board reads anew.
+    pub(crate) values: &'k RereadNames,
 }
 
 /// The variables that U-Boot and its commands set by themselves, and the one that its scripts use whether it is defined
@@ -64,6 +67,19 @@ const SET_BY_COMMANDS: [&[u8]; 35] = [
     b"ver",
 ];
 
+/// The most bytes of a value that may be a name: each word that substitutes it has them read.
+const MOST_VALUE: usize = 4096;
+
+/// A value, if it isn't too long for a name.
+fn short_value(value: Option<&[u8]>) -> Option<&[u8]>
+    ensures { option_copied result ≡ short_value (option_copied value.entry) }
+{
+    match value {
+        Some(value) if value.len() <= MOST_VALUE => Some(value),
+        _ => None,
+    }
+}
+
 impl<'k> Variables<'k> {
     /// Whether the environment has a variable of this name.
     fn has(&self, name: &[u8]) -> bool
@@ -86,8 +102,15 @@ impl<'k> Variables<'k> {
         if is_word_of(&SET_BY_COMMANDS, name) || self.names.given.has(name) {
             None
         } else {
-            self.vars.get(name)
+            short_value(self.vars.get(name))
         }
+    }
+
+    /// Whether a board reads its value anew, in particular where it cuts words.
+    fn rereads(&self, cut: bool, name: &[u8]) -> bool
+        ensures { result ≡ is_reread (Some (known_view self.now)) cut name.now }
+    {
+        self.values.reread.has(name) || (cut && self.values.recut.has(name))
     }
 
     /// Whether no variable of this name is there, and none is foreseen.
@@ -181,6 +204,16 @@ impl<'k> Lookups<'k> {
     {
         match self.variables {
             Some(variables) => variables.names.written.has(name),
+            None => false,
+        }
+    }
+
+    /// Whether a board reads the value of this name anew, in particular where it cuts words.
+    pub(crate) fn is_reread(&self, cut: bool, name: &[u8]) -> bool
+        ensures { result ≡ is_reread (known_in self.now) cut name.now }
+    {
+        match self.variables {
+            Some(variables) => variables.rereads(cut, name),
             None => false,
         }
     }

@@ -7,13 +7,14 @@ ghost use Rattle.fw_check.specs.Findings.{found_at, misuse_findings};
 ghost use Rattle.fw_check.specs.Called.{is_after_env};
 ghost use Rattle.fw_check.specs.Found.{found_more};
 ghost use Rattle.fw_check.specs.Looking.{known_in};
-ghost use Rattle.fw_check.specs.Misuse.{begin_with, begins_with_letter, compares_numbers, ends_name, has_lost_run, has_odd, is_calculated_wrong, is_empty, is_env_wrong, is_lost_run, is_no_builtin, is_no_number, is_no_subcommand, is_odd, is_set_wrong, is_sum_sign, is_text_form, is_value_wrong, may_follow, misuse_if, misuse_of, misuse_sentence};
+ghost use Rattle.fw_check.specs.Misuse.{begins_with_letter, calculated, compares_numbers, has_lost_run, has_odd, is_calculated_wrong, is_empty, is_env_wrong, is_lost_run, is_no_builtin, is_no_number, is_no_subcommand, is_odd, is_sum_sign, is_text_form, is_value_wrong, may_follow, misuse_if, misuse_of, misuse_sentence, of_env};
 
 use crate::findings::Findings;
 use crate::foreign::plain_of;
 use crate::foreseen::is_calculation;
-use crate::literals::{front_of, is_called, is_word_of, literal};
+use crate::literals::{is_called, is_word_of, literal};
 use crate::lookups::Lookups;
+use crate::operands::{is_one, is_operand_wrong, is_operated_wrong, is_set_wrong};
 use finding_kinds::FindingKind;
 use hush_commands::is_builtin;
 use hush_syntax::{Text, Word};
@@ -28,8 +29,16 @@ pub(crate) enum Misuse {
     Setting,
     /// A `setexpr` with other than two or four words, or with a sum in a word.
     Calculation,
+    /// Another operator than `setexpr` has.
+    Operator,
     /// An `env` without one of its commands.
     Environment,
+    /// Words that a command of `env` can't have.
+    Operands,
+    /// A `saveenv` with words.
+    Saving,
+    /// An `exit` with several words.
+    Ending,
     /// A `run` inside the arguments of another command.
     Joined,
     /// A comparison of numbers with a word.
@@ -64,7 +73,11 @@ fn add_misuse(
         Misuse::Nothing => findings.add(count, FindingKind::WrongUse, NOTHING, b"", b""),
         Misuse::Setting => findings.add(count, FindingKind::WrongUse, SETTING, b"", b""),
         Misuse::Calculation => findings.add(count, FindingKind::WrongUse, CALCULATION, b"", b""),
+        Misuse::Operator => findings.add(count, FindingKind::WrongUse, OPERATOR, b"", b""),
         Misuse::Environment => findings.add(count, FindingKind::WrongUse, ENVIRONMENT, b"", b""),
+        Misuse::Operands => findings.add(count, FindingKind::WrongUse, OPERANDS, b"", b""),
+        Misuse::Saving => findings.add(count, FindingKind::WrongUse, SAVING, b"", b""),
+        Misuse::Ending => findings.add(count, FindingKind::WrongUse, ENDING, b"", b""),
         Misuse::Joined => findings.add(count, FindingKind::WrongUse, JOINED, b"", b""),
         Misuse::Number => findings.add(count, FindingKind::WrongUse, NUMBER, b"", b""),
         Misuse::NoExpression => findings.add(count, FindingKind::WrongUse, NO_EXPRESSION, b"", b""),
@@ -78,7 +91,15 @@ const SETTING: &[u8] = b"`setenv` is written `setenv NAME VALUE`";
 const CALCULATION: &[u8] =
     b"`setexpr` is written `setexpr NAME VALUE` or `setexpr NAME VALUE OPERATOR VALUE`";
 
+const OPERATOR: &[u8] = b"`setexpr` has no operators but + - * / % & | ^";
+
 const ENVIRONMENT: &[u8] = b"`env` needs the name of one of its commands";
+
+const OPERANDS: &[u8] = b"these are not the words of this `env` command";
+
+const SAVING: &[u8] = b"`saveenv` takes no words";
+
+const ENDING: &[u8] = b"`exit` takes one word at most";
 
 const JOINED: &[u8] = b"a `;` is missing before `run`";
 
@@ -102,14 +123,19 @@ pub(crate) fn misuse_of(
         let wrong = is_set_wrong(lookups.alloc, text, words)?;
         Ok(misuse_if(wrong, Misuse::Setting))
     } else if is_calculation(called) {
-        let wrong = is_calculated_wrong(lookups.alloc, text, words)?;
-        Ok(misuse_if(wrong, Misuse::Calculation))
+        calculated(lookups.alloc, text, words)
     } else if is_called(called, b"test") {
         let wrong = has_odd(lookups.alloc, text, words)?;
         Ok(misuse_if(wrong, Misuse::Number))
     } else if is_called(called, b"env") {
-        let wrong = is_env_wrong(lookups, text, words)?;
-        Ok(misuse_if(wrong, Misuse::Environment))
+        of_env(lookups, text, words)
+    } else if is_called(called, b"saveenv") {
+        Ok(misuse_if(!is_empty(text, words), Misuse::Saving))
+    } else if is_called(called, b"exit") {
+        Ok(misuse_if(
+            !(is_empty(text, words) || is_one(text, words)),
+            Misuse::Ending,
+        ))
     } else {
         let lost = has_lost_run(lookups, text, words)?;
         Ok(misuse_if(is_no_builtin(called) && lost, Misuse::Joined))
@@ -122,47 +148,33 @@ fn misuse_if(wrong: bool, misuse: Misuse) -> Option<Misuse>
     if wrong { Some(misuse) } else { None }
 }
 
-fn is_empty(text: &Text, words: &[Word]) -> bool
+/// What is wrong with these arguments of `setexpr`.
+fn calculated(alloc: Global, text: &Text, words: &[Word]) -> Result<Option<Misuse>, AllocError>
+    ensures { IfOk result (λ misuse. misuse ≡ calculated (is_calculated_wrong (words_in text.now words.now)) (words_in text.now words.now)) }
+{
+    if is_calculated_wrong(alloc, text, words)? {
+        return Ok(Some(Misuse::Calculation));
+    }
+    let wrong = is_operated_wrong(alloc, text, words)?;
+    Ok(misuse_if(wrong, Misuse::Operator))
+}
+
+/// What is wrong with these arguments of `env`.
+fn of_env(lookups: &Lookups<'_>, text: &Text, words: &[Word]) -> Result<Option<Misuse>, AllocError>
+    ensures { IfOk result (λ misuse. misuse
+        ≡ of_env (is_env_wrong lookups.now.rules.shell (words_in text.now words.now)) lookups.now.rules.shell (words_in text.now words.now)) }
+{
+    if is_env_wrong(lookups, text, words)? {
+        return Ok(Some(Misuse::Environment));
+    }
+    let wrong = is_operand_wrong(lookups, text, words)?;
+    Ok(misuse_if(wrong, Misuse::Operands))
+}
+
+pub(crate) fn is_empty(text: &Text, words: &[Word]) -> bool
     ensures { result ≡ is_empty (words_in text.now words.now) }
 {
     words.is_empty()
-}
-
-/// Whether `setenv` with these arguments has no name, or one with a space or a `=` before its first substitution, or a `=` as
-/// its second argument.
-fn is_set_wrong(alloc: Global, text: &Text, words: &[Word]) -> Result<bool, AllocError>
-    ensures { IfOk result (λ wrong. wrong ≡ is_set_wrong (words_in text.now words.now)) }
-{
-    if words.is_empty() {
-        return Ok(true);
-    }
-    let name = front_of(alloc, text, words[0])?;
-    let equals = begin_with(alloc, text, b"=", &words[1..])?;
-    Ok(has_end(&name.bytes) || equals)
-}
-
-/// Whether the first of these words is this text.
-fn begin_with(alloc: Global, text: &Text, first: &[u8], words: &[Word]) -> Result<bool, AllocError>
-    ensures { IfOk result (λ begins. begins ≡ begin_with first.now (words_in text.now words.now)) }
-{
-    if words.is_empty() {
-        return Ok(false);
-    }
-    let word = literal(alloc, text, words[0])?;
-    Ok(is_called(&word, first))
-}
-
-fn has_end(name: &[u8]) -> bool
-    ensures { result ≡ list_any ends_name name.now }
-{
-    name.iter().any(|b| ends_name(*b))
-}
-
-/// Whether no name has this byte: a space or a `=`.
-fn ends_name(b: u8) -> bool
-    ensures { result ≡ ends_name b }
-{
-    b == b' ' || b == b'='
 }
 
 /// Whether `setexpr` with these arguments has other than two or four, or a sum as its value, unless it works on texts.
@@ -200,7 +212,7 @@ fn may_follow(text: &Text, words: &[Word]) -> bool
 }
 
 /// Whether a value is a form of `setexpr` that works on texts.
-fn is_text_form(value: &Option<Vec<u8>>) -> bool
+pub(crate) fn is_text_form(value: &Option<Vec<u8>>) -> bool
     ensures { result ≡ is_text_form (option_map (λ v. v.items) value.now) }
 {
     match value {

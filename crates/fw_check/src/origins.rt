@@ -2,7 +2,7 @@
 ghost use Rattle.std.specs.Prelude.{◌≡◌, option_map};
 ghost use Rattle.fw_check.specs.EntryPlaces.{text_view};
 ghost use Rattle.fw_check.specs.Lines.{subject_view};
-ghost use Rattle.fw_check.specs.Origins.{origin_of, origin_view, subject_of, value_place};
+ghost use Rattle.fw_check.specs.Origins.{is_stored, origin_of, origin_view, subject_of, value_place};
 
 use crate::entry_places::{EntryPlaces, EnvironmentText};
 use crate::lines::Subject;
@@ -41,6 +41,17 @@ impl<'s> Origin<'s> {
         match self {
             Origin::Own(subject) => subject,
             Origin::Within(text, name) => Subject::Entry(text.path, name),
+        }
+    }
+
+    /// Whether it is the script of a variable, which a board loads with its environment.
+    pub(crate) fn is_stored(self) -> bool
+        ensures { result ≡ is_stored (origin_view self.entry) }
+    {
+        match self {
+            Origin::Own(Subject::File(_) | Subject::Whole) => false,
+            Origin::Own(Subject::Variable(_) | Subject::Entry(_, _)) => true,
+            Origin::Within(_, _) => true,
         }
     }
 

@@ -18,6 +18,7 @@ use crate::findings::{Findings, Report};
 use crate::items::items_of;
 use crate::lookups::Lookups;
 use crate::origins::Origin;
+use crate::quoting::check_quoting;
 use crate::statements::check_items;
 use crate::summary::summary;
 use finding_kinds::Format;
@@ -147,6 +148,7 @@ pub(crate) fn check_script<'c>(
     so_far.add_script();
     let mut found = Findings::new(so_far, origin, text);
     found.add_return()?;
+    found.add_stored()?;
     check_reading(lookups, asked, text, &mut found)?;
     Ok(found.report())
 }
@@ -178,6 +180,7 @@ fn check_parsed(
     ensures { OnOk result (ReadsItems (known_in lookups.now) (rules_in lookups.now) asked (source_of script.now)
         found.old found.new) }
 {
+    check_quoting(script.source(), found)?;
     let items = items_of(lookups.alloc, script, asked)?;
     check_items(lookups, script.text(), &items, found)
 }

@@ -3,13 +3,14 @@ ghost use Rattle.std.specs.Prelude.{◌≡◌, ◌++◌, [], if◌then◌else◌
 ghost use Rattle.std.specs.List.{flat_map};
 ghost use Rattle.hush_words.specs.Parts.{word_atoms};
 ghost use Rattle.fw_check.specs.Expecting.{suspect_view};
-ghost use Rattle.fw_check.specs.Findings.{assigned_findings, call_findings, foreign_findings, hidden_findings, is_free, item_findings, operator_end, refused_end, test_findings, written_end, wrong_findings};
+ghost use Rattle.fw_check.specs.Findings.{arguments_foreign, assigned_findings, assignment_findings, call_findings, hidden_findings, is_free, item_findings, list_findings, operator_end, operator_findings, refused_end, use_findings, written_end, wrong_findings};
 ghost use Rattle.fw_check.specs.Found.{found_more};
 ghost use Rattle.fw_check.specs.Literals.{literal_of};
 ghost use Rattle.fw_check.specs.Looking.{known_in, rules_in};
 
 use crate::command_names::check_command;
-use crate::differences::{check_cuts, check_exit};
+use crate::differences::{check_count, check_cuts, check_exit, check_reserved, check_unset};
+use crate::empty_values::check_empty;
 use crate::findings::Findings;
 use crate::foreign::check_foreign;
 use crate::items::Item;
@@ -17,6 +18,7 @@ use crate::literals::{is_called, literal};
 use crate::lookups::Lookups;
 use crate::misuse::{Misuse, check_misuse, misuse_of};
 use crate::operators::{Suspect, tested};
+use crate::reread::{check_value, check_values};
 use crate::run_targets::check_targets;
 use crate::statuses::{check_begun, check_setting, shows_any, shows_in};
 use crate::undefined_names::{check_word, check_words};
@@ -67,8 +69,7 @@ fn check_item(
                 shows_in(text, value),
                 findings,
             )?;
-            check_assigned(lookups, text, name, findings)?;
-            check_word(lookups, text, value, findings)
+            check_assignment(lookups, text, name, value, findings)
         }
         Item::Binding {
             setting,
@@ -82,11 +83,42 @@ fn check_item(
                 findings,
             )?;
             check_assigned(lookups, text, name, findings)?;
-            check_cuts(lookups, text, words, findings)?;
-            check_foreign(lookups, text, words, findings)?;
-            check_words(lookups, text, words, findings)
+            check_list(lookups, text, words, findings)
         }
     }
+}
+
+/// The same for an assignment.
+fn check_assignment(
+    lookups: &Lookups<'_>,
+    text: &Text,
+    name: Word,
+    value: Word,
+    findings: &mut Findings<'_, '_>,
+) -> Result<(), AllocError>
+    ensures { OnOk result (findings.new ≡ found_more findings.old
+        (assignment_findings (known_in lookups.now) (rules_in lookups.now) text.now name value)) }
+{
+    check_assigned(lookups, text, name, findings)?;
+    check_unset(lookups, text, name.start as usize, value, findings)?;
+    check_word(lookups, text, value, findings)?;
+    check_value(lookups, false, text, value, findings)
+}
+
+/// The same for the list of a `for`.
+fn check_list(
+    lookups: &Lookups<'_>,
+    text: &Text,
+    words: &[Word],
+    findings: &mut Findings<'_, '_>,
+) -> Result<(), AllocError>
+    ensures { OnOk result (findings.new ≡ found_more findings.old (list_findings (known_in lookups.now) text.now words.now)) }
+{
+    check_cuts(lookups, text, words, findings)?;
+    check_reserved(lookups, text, words, findings)?;
+    check_foreign(lookups, text, words, findings)?;
+    check_words(lookups, text, words, findings)?;
+    check_values(lookups, false, text, words, findings)
 }
 
 /// The same for a simple command.
@@ -104,15 +136,37 @@ fn check_call(
     }
     check_command(lookups, text, words[0], &words[1..], findings)?;
     let called = lookups.called(text, words[0])?;
-    let count = words[0].start as usize;
     check_arguments(lookups, text, &called, &words[1..], findings)?;
-    check_exit(is_called(&called, b"exit"), count, findings)?;
-    let misuse = misuse_of(lookups, text, &called, &words[1..])?;
+    check_exit(
+        is_called(&called, b"exit"),
+        words[0].start as usize,
+        findings,
+    )?;
+    check_count(words, findings)?;
+    check_use(lookups, text, &called, words[0], &words[1..], findings)?;
+    check_words(lookups, text, words, findings)?;
+    check_values(lookups, true, text, words, findings)
+}
+
+/// Adds what is found by the name of a command and its arguments.
+fn check_use(
+    lookups: &Lookups<'_>,
+    text: &Text,
+    called: &Option<Vec<u8>>,
+    word: Word,
+    words: &[Word],
+    findings: &mut Findings<'_, '_>,
+) -> Result<(), AllocError>
+    ensures { OnOk result (findings.new ≡ found_more findings.old
+        (use_findings (known_in lookups.now) (rules_in lookups.now) (option_map (λ v. v.items) called.now) text.now word words.now)) }
+{
+    let count = word.start as usize;
+    let misuse = misuse_of(lookups, text, called, words)?;
     check_misuse(count, misuse, findings)?;
-    let (runs, tests) = (is_called(&called, b"run"), is_called(&called, b"test"));
-    check_operators(lookups, text, tests, count, &words[1..], findings)?;
-    check_targets(lookups, text, runs, &words[1..], findings)?;
-    check_words(lookups, text, words, findings)
+    let (runs, tests) = (is_called(called, b"run"), is_called(called, b"test"));
+    check_operators(lookups, text, tests, count, words, findings)?;
+    check_targets(lookups, text, runs, words, findings)?;
+    check_empty(lookups, text, called, words, findings)
 }
 
 /// Adds those of the arguments of a command of this name that are written for another shell.
@@ -124,7 +178,7 @@ fn check_arguments(
     findings: &mut Findings<'_, '_>,
 ) -> Result<(), AllocError>
     ensures { OnOk result (findings.new ≡ found_more findings.old
-        (if is_free (option_map (λ v. v.items) called.now) then [] else flat_map (foreign_findings text.now) words.now)) }
+        (arguments_foreign (option_map (λ v. v.items) called.now) text.now words.now)) }
 {
     if is_free(called) {
         Ok(())
@@ -150,7 +204,7 @@ fn check_operators(
     findings: &mut Findings<'_, '_>,
 ) -> Result<(), AllocError>
     ensures { OnOk result (findings.new ≡ found_more findings.old
-        (if tests then test_findings lookups.now.rules.shell count text.now words.now else [])) }
+        (operator_findings lookups.now.rules.shell tests count text.now words.now)) }
 {
     if !tests {
         return Ok(());

@@ -18,6 +18,7 @@ use crate::lookups::{Lookups, Variables};
 use crate::menu::script;
 use crate::origins::Origin;
 use crate::reading::read_all;
+use crate::reread::RereadNames;
 use crate::rules::Rules;
 use crate::script_check::{check_script, lacks_memory, print_report};
 use crate::sorted_names::SortedNames;
@@ -159,10 +160,12 @@ fn check_all<'c, 'k>(
         &mut visited,
     )?;
     let gathered = read_all(&names_alone, vars, scripts, &mut visited)?;
+    let values = RereadNames::of(alloc, vars)?;
     let lookups = Lookups {
         variables: Some(Variables {
             vars,
             names: &gathered,
+            values: &values,
         }),
         ..names_alone
     };

@@ -1,7 +1,7 @@
 """Inputs made to be expensive, and those that are as long as they may be, each in bounded time and memory."""
 
 from differential.harness.boards import STRICT, lines_of
-from differential.harness.check_lines import cut_off, last
+from differential.harness.check_lines import cut_off, in_line, joins, last, lines, pointed, too_many
 from differential.harness.running import Case
 from model.image import ERASED, LARGEST, Geometry, entries
 from model.program import TOO_LONG, WARNING, Answer
@@ -124,26 +124,25 @@ def checks():
     """Many findings in one script, a long way from script to script, scripts each of which starts all, long names, and many names."""
     unknown = b"%s:1:%d: error: no builtin and no stand-in is called `a` [unknown-command]\n"
     script = b"a;" * 500_000
-    found = [unknown % (b"s", 2 * at + 1) for at in range(500_000)]
+    found = [in_line(unknown % (b"s", column), script, column) for column in range(1, 1_000_000, 2)]
     yield check("500,000 commands that nobody has", [b"-f", b"s", b"--stubs", b"none"], {b"s": script, b"none": b""}, found)
-    lines = b"true\n" * 200_000
-    found = [b"s:200001:1: error: not expected here (Unexpected) [syntax]\n"]
-    yield check("a fault in line 200,001", [b"-f", b"s"], {b"s": lines + b"fi"}, found)
+    found = [pointed(b"s:200001:1: error: not expected here (Unexpected) [syntax]\n", b"fi")]
+    yield check("a fault in line 200,001", [b"-f", b"s"], {b"s": b"true\n" * 200_000 + b"fi"}, found)
     for name, faulty, column, said in (
         ("65,535 quotes", b'"' * 65_535, 65_535, b"a quote is not closed (Quote)"),
         ("100,000 openings", b"if true; then " * 100_000, 897, b"more than 64 commands inside one another (Nest)"),
         ("100,000 branches", b"if a; then b; " + b"elif a; then b; " * 100_000, 1_600_015, b"the text ends where more has to follow (Missing)"),
     ):
-        yield check(name, [b"-f", b"s"], {b"s": faulty}, [b"s:1:%d: error: %s [syntax]\n" % (column, said)])
+        found = [in_line(b"s:1:%d: error: %s [syntax]\n" % (column, said), faulty, column)]
+        yield check(name, [b"-f", b"s"], {b"s": faulty}, found)
     yield check("a chain of 200,001 commands", [b"-f", b"s"], {b"s": b"a && " * 200_000 + b"a"}, [])
     whole = [b"--env", b"env", b"--size=100000"]
-    text = b"a=1\nbootcmd=" + b"a=;\\\n" * 150_000 + b"\n"
-    found = [
-        b"bootcmd:%d:1: warning: `a` is an environment variable, so it can not be assigned [hidden-assignment]\n" % line for line in range(1, 150_001)
-    ]
+    text = b"a=1\nbootcmd=" + b"a=1;\\\n" * 150_000 + b"\n"
+    said = b"bootcmd:%d:1: warning: `a` is an environment variable, so it can not be assigned [hidden-assignment]\n"
+    found = [pointed(said % line, b"a=1;") for line in range(1, 150_001)]
     yield check("150,000 assignments that are refused", [*STRICT, *whole], {b"env": text}, found)
     text = b"bootcmd=run v00000\n" + b"".join(b"v%05d=run v%05d\n" % (at, at + 1) for at in range(50_000))
-    found = [b"v49999:1:5: error: `run v50000` names a variable that is not defined [run-undefined]\n"]
+    found = [pointed(b"v49999:1:5: error: `run v50000` names a variable that is not defined [run-undefined]\n", b"run v50000", 5)]
     yield check("50,000 scripts, each of which starts the next", whole, {b"env": text}, found, 50_001)
     names = b"".join(b"v%05d=true\n" % at for at in range(30_000))
     yield check("30,000 scripts that 60,000 commands may start", whole, {b"env": b"bootcmd=true;" + b"run v$?;" * 60_000 + b"\n" + names}, [], 30_001)
@@ -151,20 +150,31 @@ def checks():
     yield check("30,000 beginnings of as many names", whole, {b"env": b"bootcmd=true;" + each + b"\n" + names}, [], 30_001)
     every = b" ".join(b"v%d" % at for at in range(440))
     text = b"bootcmd=run v0\n" + b"".join(b"v%d=run %s\n" % (at, every) for at in range(440))
-    yield check("440 scripts, each of which starts all", whole, {b"env": text}, [], 441)
+    yield check("440 scripts, each of which starts all", [*whole, b"--ignore=many-words"], {b"env": text}, [], 441)
     long = b"a" * 300_000
     text = b"bootcmd=run %s\n%s=%s\n" % (long, long, script[:300_000])
-    found = [unknown % (long, 2 * at + 1) for at in range(2)]
+    found = [in_line(unknown % (long, column), script, column) for column in (1, 3)]
     yield check("150,000 commands in a script of a long name", [*whole, b"--stubs", b"none"], {b"env": text, b"none": b""}, found, 2, 149_998)
-    text = b"bootcmd=" + b"$a;" * 300_000 + b"\n"
-    found = [b"bootcmd:1:%d: warning: `${a}` names a variable that nothing defines [undefined-name]\n" % (3 * at + 1) for at in range(300_000)]
-    yield check("300,000 substitutions of one name", whole, {b"env": text}, found)
+    text, said = b"$a;" * 300_000, b"bootcmd:1:%d: warning: `${a}` names a variable that nothing defines [undefined-name]\n"
+    found = [in_line(said % column, text, column) for column in range(1, 900_000, 3)]
+    yield check("300,000 substitutions of one name", whole, {b"env": b"bootcmd=" + text + b"\n"}, found)
     text = b"bootcmd=" + b"".join(b"$v%05d v%05d;" % (at, 65_535 - at) for at in range(65_536)) + b"\n"
     yield check("65,536 names, each given once", whole, {b"env": text}, [])
-    text = b"bootcmd=echo " + b"$%s$b$%s" % (long, long) + b"\n"
-    found = [b"bootcmd:1:6: warning: `${%s}` names a variable that nothing defines [undefined-name]\n" % name for name in (long, b"b", long)]
-    yield check("substitutions of a long name", whole, {b"env": text}, found)
+
+
+def checks_of_words():
+    """Joined lines, a long command, a long name, and a long value that many words have."""
+    found = [pointed(lines([joins(f"{number}:1")], "s"), b"\\") for number in range(1, 400_001)]
+    yield check("400,000 joined lines", [b"-f", b"s"], {b"s": b"\\\n" * 400_000}, found)
+    script = b"a " * 300_000
+    yield check("a command of 300,000 words", [b"-f", b"s"], {b"s": script}, [in_line(lines([too_many("1:33")], "s"), script, 33)])
+    long, whole = b"a" * 300_000, [b"--env", b"env", b"--size=100000"]
+    text, said = b"echo $%s$b$%s" % (long, long), b"bootcmd:1:6: warning: `${%s}` names a variable that nothing defines [undefined-name]\n"
+    found = [in_line(said % name, text, 6) for name in (long, b"b", long)]
+    yield check("substitutions of a long name", whole, {b"env": b"bootcmd=" + text + b"\n"}, found)
+    yield check("60,000 substitutions of a long value", whole, {b"env": b"v=%s\nbootcmd=%s\n" % (long, b"x=$v;" * 60_000)}, [])
+    yield check("200,000 commands by a long value", whole, {b"env": b"v=%s\nbootcmd=%s\n" % (long, b"$v;" * 200_000)}, [])
 
 
 def chunks():
-    return [blocks, inputs, variables, texts, orders, checks]
+    return [blocks, inputs, variables, texts, orders, checks, checks_of_words]

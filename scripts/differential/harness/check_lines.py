@@ -37,6 +37,22 @@ not_typed = finding("error: the value does not have the type that .flags gives i
 returned = finding("warning: a carriage return stands in the script", "carriage-return")
 not_defined = finding("warning: `${{{}}}` names a variable that nothing defines", "undefined-name")
 exits = finding("warning: U-Boot before 2025 ignores `exit` and goes on", "exit")
+drops_at_load = finding("warning: a board drops this backslash when it loads the variable", "backslashes")
+joins = finding("warning: a board takes this newline into a word, and does not join the lines", "joined-lines")
+loose = finding("warning: a board runs the next line whatever the status here is", "loose-operators")
+apostrophe = finding("warning: a board takes this `'` for the beginning or the end of a quote", "apostrophes")
+drops = finding("warning: a board drops this backslash", "backslashes-in-quotes")
+keeps = finding("warning: a board keeps this backslash", "backslashes-in-quotes")
+in_braces = finding("warning: a board substitutes a name that begins with `_` in braces only", "underscored-names")
+too_many = finding("warning: U-Boot before 2025 takes 16 words of a command at most", "many-words")
+no_calculator = finding("error: `setexpr` has no operators but + - * / % & | ^", "wrong-use")
+no_words = finding("error: `saveenv` takes no words", "wrong-use")
+one_word = finding("error: `exit` takes one word at most", "wrong-use")
+no_words_of_env = finding("error: these are not the words of this `env` command", "wrong-use")
+empties = finding("warning: a board keeps the variable, with an empty value", "empty-value")
+leaves = finding("note: U-Boot before 2025 leaves the old value, if there is one", "empty-assignment")
+refuses = finding("warning: a board refuses a reserved word in the list of a `for`", "reserved-words-of-for")
+rereads = finding("warning: a board reads quotes, backslashes, newlines and ` #` in the value of `{}` anew", "reread-value")
 cuts = finding("warning: a board cuts this word of a `for` at its blanks, in quotes too", "quoted-for")
 mixes = finding("warning: a board skips the rest of a chain once a command of it is skipped", "and-or")
 of_if = finding("warning: shells differ in the status of an `if` without `else`", "if-status")
@@ -59,8 +75,20 @@ def several(finding, text):
     return [finding(place, word) for place, word in zip(words[::2], words[1::2])]
 
 
+def pointed(line, text, column=1):
+    """A finding's line, with this text of the script below it and a `^` in this column."""
+    return b"%s%s\n%s^\n" % (line, text, b" " * (column - 1))
+
+
+def in_line(line, text, column):
+    """The same in a line that may be cut: 30 bytes of it are shown before the place, and 40 from there on."""
+    begin, end = max(column - 31, 0), column + 39
+    before, behind = b"..." * (begin > 0), b"..." * (end < len(text))
+    return pointed(line, before + text[begin:end] + behind, len(before) + column - begin)
+
+
 def cut_off(found):
-    """What is printed of these lines."""
+    """What is printed of these findings."""
     text = b""
     for line in found:
         if len(text) >= 65_536:
@@ -105,13 +133,21 @@ def last(scripts, errors, warnings):
     return f"{counted(scripts, 'script')} looked at, {counted(errors, 'error')}, {counted(warnings, 'warning')}\n".encode()
 
 
+def without_places(output):
+    """What is printed, without the two lines below each finding that show its place."""
+    return re.sub(rb"\n[^\n]*\n *\^(?=\n)", b"", output)
+
+
 def row(name, words, files, output, errors=b"", given=b"", status=None, seconds=0.25, scripts=None, found=None):
     """A check; the status is 1 if an error is found, and 2 if a fault is reported. Unless one is, the last line has the numbers of errors and
-    warnings that are `found`, those of the lines if they aren't given; how many scripts there are, if that isn't given, is the model's."""
+    warnings that are `found`, those of the lines if they aren't given; how many scripts there are, if that isn't given, is the model's. So are
+    the lines that show the places, if the output has none of them."""
     case = Case(name, [b"check", *words], files, given, seconds=seconds)
     if errors in (b"", WARNING):
         found = found or (output.count(b": error: "), output.count(b": warning: "))
-        scripts = scripts or int(re.search(rb"(\d+) scripts? looked at", case.answer().errors)[1])
+        answer = case.answer()
+        scripts = scripts or int(re.search(rb"(\d+) scripts? looked at", answer.errors)[1])
+        output = answer.output if without_places(answer.output) == output else output
         errors, usual = errors + last(scripts, *found), int(found[0] > 0)
     else:
         usual = 2
@@ -119,12 +155,21 @@ def row(name, words, files, output, errors=b"", given=b"", status=None, seconds=
     return case
 
 
+# The kinds of quoting, which have rows of their own
+QUOTING = [
+    b"--ignore=" + code
+    for code in (b"backslashes", b"joined-lines", b"loose-operators", b"apostrophes", b"backslashes-in-quotes", b"underscored-names")
+]
+
+
 def over(variables, words, output, files=(), **rest):
-    return row("a check of an environment", [b"--env", b"env", *words], {b"env": text_of(variables)} | dict(files), output, **rest)
+    """An environment, of which all but the kinds of quoting is told."""
+    return row("a check of an environment", [b"--env", b"env", *QUOTING, *words], {b"env": text_of(variables)} | dict(files), output, **rest)
 
 
 def of_file(script, words, output, files=(), **rest):
-    return row("a check of a script", [b"-f", b"a:1 b", *words], {b"a:1 b": script} | dict(files), output, **rest)
+    """The same of the script of a file."""
+    return row("a check of a script", [b"-f", b"a:1 b", *QUOTING, *words], {b"a:1 b": script} | dict(files), output, **rest)
 
 
 def with_stand_ins(words=()):

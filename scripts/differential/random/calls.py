@@ -66,6 +66,13 @@ KNOWN = [b"", b"a\nb\n# c\n\nfilesize\n", b"x\r\n y\n", b"a\nb 1\n", b"a=1\n"]
 # Those of kinds, and two that no kind has
 CODES = [*[*KINDS] * 6, b"syntax ", b""]
 FORMATS = [*[b"text", b"gcc", b"json"] * 6, b"xml"]
+# What stands between two blanks of a script and boards make in another way, and values that they read again
+DIFFERENT = [
+    b'"it\'s"', b"'a\\b'", b'"\\$x\\\\"', b'"\\\'\\\n"', b"$_y", b'"$_y"', b"\\\n", b"a\\\n", b"# it's \\\n", b"&&\ntrue", b"|| # c\n\ntrue", b"&& \\\n\ntrue",
+    b"; a= ;", b"; z='' ;", b"; setenv x '' ;", b"; env set -f b \"\" ;", b"; for i in do 'if' $x; do true; done ;", b" ".join([b"a"] * 15), b"$x\"$a\"", b"; saveenv x ;",
+    b"; env exists a b ;", b"; setexpr n 1 ** 2 ;", b"; setenv -f ;",
+]  # fmt: skip
+REREAD = [b"it's", b'a"b', b"a # b", b"#b", b"a\\b", b"a\n#b", b"a\t#", b"a#b"]
 COUNTS = [b"1", b"2", b"2", b"007", b"100000", b"0100000", b"10000001"]
 BOOTS = [b"mmc", b"mmc", b"usb", b"mmcinfo", b"echo", b"", b"\xc3\xa9"]
 SIZES = [b"0x4000", b"1000", b"0X100", b"200", b"80", b"0d", b"8", b"100001", b"4k"]
@@ -221,7 +228,16 @@ class Calls:
         script = Writer(self.numbers).script()
         if self.chance(30):
             script = spoiled(self.numbers, script)
+        if self.chance(30):
+            script = self.different(script)
         return script.replace(b"\n", b"\r\n") + b"\r" * self.chance(50) if self.chance(10) else script
+
+    def different(self, script):
+        """A script with words and commands that boards take in another way."""
+        words = script.split(b" ")
+        for _ in range(self.numbers.randint(1, 3)):
+            words.insert(self.numbers.randint(1, len(words)), self.numbers.choice(DIFFERENT))
+        return b" ".join(words)
 
     def script_file(self, number):
         return b"-" if self.chance(15) else self.text(b"script%d" % number, self.board_script())
@@ -229,6 +245,8 @@ class Calls:
     def scripts_text(self):
         """An environment of scripts, as a text for import."""
         found = variables(self.numbers, self.chance(50))
+        for _ in range(self.chance(40)):
+            found[self.numbers.choice([b"a", b"b", b"x", b"_y"])] = self.numbers.choice(REREAD)
         for name in STARTED:
             if self.chance(85):
                 found[name] = self.board_script().replace(b"\0", b"")

@@ -25,8 +25,8 @@ FOUND = {
     "kernel-arguments": [not_defined("1:70", "optargs"), not_defined("1:81", "more")],
     **{f"rauc-with-{name}-spent": [not_defined("31:18", "loadaddr"), not_defined("31:48", "loadaddr")] for name in ("one-slot", "both-slots")},
 }
-# Some end by `exit`, which is no fault of theirs
-BUT_EXITS = [b"--ignore", b"exit"]
+# Some end by `exit`, or empty a name that nothing has assigned, which is no fault of theirs
+NO_FAULTS = [b"--ignore", b"exit", b"--ignore=empty-assignment"]
 # What is before the name of a command, and the last word that closes a form
 BEFORE = re.compile(rb"(?:\A|; |&& |\|\| |if |then |else |do |\n *)\Z")
 # A word, the name that an assignment begins with, a substitution, and what is before an argument of `test`, which may be absent
@@ -124,7 +124,7 @@ def slipped(name, variables, stubs, script, slip):
 def as_they_are():
     for name, variables, stubs in boards():
         files = {b"env": text_of(variables), b"stand-ins": stubs}
-        words, found = [b"--env", b"env", *with_stand_ins([b"script"]), *BUT_EXITS], FOUND.get(name, [])
+        words, found = [b"--env", b"env", *with_stand_ins([b"script"]), *NO_FAULTS], FOUND.get(name, [])
         yield row(name, words, files, lines(on_board(found), "script"))
         yield row(name, [*STRICT, *words], files, lines(found, "script"))
     broken = TOP / "examples/booting/broken.txt"

@@ -4,8 +4,8 @@ over an environment and alone, with stand-ins and without."""
 from differential.harness.boards import STRICT
 
 from differential.harness.check_lines import (
-    any_target, cuts, exits, lacked, lacked_test, lines, mixes, no_calculation, no_expression, no_functions, no_operator, no_operator_of_board, no_script, no_subcommand,
-    not_assigned, not_called, not_defined, not_run, of_if, of_loop, runs_nothing,
+    QUOTING, any_target, cuts, exits, lacked, lacked_test, leaves, lines, mixes, no_calculation, no_expression, no_functions, no_operator, no_operator_of_board, no_script, no_subcommand,
+    no_words_of_env, not_assigned, not_called, not_defined, not_run, of_if, of_loop, runs_nothing,
     of_file, on_board, over, place, returned, row, several, stale, with_stand_ins, without,
 )  # fmt: skip
 from differential.rows.script_faults import EMPTY_BODIES, NEAR_SCRIPTS, NO_SCRIPTS, NO_STAND_INS, NULS
@@ -75,9 +75,13 @@ STARTS = [
     (b"setenv n$x 1; run n none", [not_run("1:19", "n"), not_run("1:21", "none")]),
     (b"setenv -F none 1; setenv -f -f none; run none -F -f", [not_run("1:42", "none")]),
     (b"setenv $x -f none; setexpr -f none 1; run none", [no_calculation("1:20"), not_run("1:43", "none")]),
-    (b"env none 1; env set; env -f set none; env $x set none; run none", [no_subcommand("1:1"), no_subcommand("1:22"), not_run("1:60", "none")]),
+    (
+        b"env none 1; env set; env -f set none; env $x set none; run none",
+        [no_subcommand("1:1"), no_words_of_env("1:13"), no_subcommand("1:22"), not_run("1:60", "none")],
+    ),
     (b"env print none; env delete none; env run none; run none", [not_run("1:52", "none")]),
-    (b"env exists; env exists $x none; env exists -f none; run none", [not_run("1:57", "none")]),
+    (b"env exists; env exists $x none; env exists -f none; run none", [*map(no_words_of_env, ("1:1", "1:13", "1:33")), not_run("1:57", "none")]),
+    (b"env 'exists' \"none\" n; run none", [no_words_of_env("1:1")]),
     (b"Setenv none; setenv2 none; run none", [not_run("1:32", "none")]),
     (b'$x none; "$run" none; echo setenv none; run none', [not_run("1:45", "none")]),
     (b"env test $x; Test $x none; test2 $none; none=$x; run none", [no_subcommand("1:1"), not_run("1:54", "none")]),
@@ -89,7 +93,7 @@ STARTS = [
 FORESEEN = [
     b"setenv none 1; run none", b"run none none; setenv none 1", b"setenv none; run none", b"setenv -f none 1; run none",
     b"setenv '-f' n\\one 1; run none", b"s'e'tenv \"none\" 1; run none", b"env set none 1; run none", b"env 'set' -\\f none 1; run none",
-    b"env exists none && run none", b"env 'exists' \"none\" n; run none", b"setexpr none 1 + 2; run none",
+    b"env exists none && run none", b"env 'exists' \"none\"; run none", b"setexpr none 1 + 2; run none",
     b"setexpr.b n1 1; setexpr.w n2 1; setexpr.l n3 1; setexpr.q n4 1; run n1 n2 n3 n4", b"test -n $none; run none",
     b"test -n \"${none}\" && run none", b"if 'test' a = b${none}$n2; then true; else run none n2; fi",
     b"while false; do for b in 1; do setenv none; done; done; run none",
@@ -98,7 +102,7 @@ FORESEEN = [
 ASSIGNED = [
     (b"a=2", [not_assigned("1:1", "a")]),
     (b"b=2", []),
-    (b"a=", [not_assigned("1:1", "a")]),
+    (b"a=", [not_assigned("1:1", "a"), leaves("1:1")]),
     (b'a="$b c"', [not_assigned("1:1", "a"), not_defined("1:3", "b")]),
     (b"b=1\n a=2; ok=3", [not_assigned("2:2", "a"), not_assigned("2:7", "ok")]),
     (b"a=2; a=3", [not_assigned("1:1", "a"), not_assigned("1:6", "a")]),
@@ -172,7 +176,7 @@ OPERATORS = [
     (b"test = y; test a = b = c; test a -a b; test -n a -n b", several(no_operator, "1:6 = 1:22 = 1:34 -a 1:50 -n")),
     (b"test -n a; test -z ''; test a = b; test a != b; test a < b; test a > b", []),
     (b"test 1 -eq 2; test 1 -ne 2; test 1 -lt 2; test 1 -le 2; test 1 -gt 2; test 1 -ge 2", []),
-    (b"test a = b -a c != d -o ! -n e -a ! ! f < g", []),
+    (b"test a = b -a c != d -o ! -n e; test a = b -a ! ! f < g", []),
     (b"test a = -e; test -n -e; test -z ==; test a = ==; test ! -n -e", []),
     (b"test -e = x; test == != x; test = = =; test -f -eq 1", []),
     (b"test; test a; test a b; test a b -e; test a = b c; test a b = c; test -n", several(no_expression, "1:7 a 1:15 a 1:25 a 1:38 a 1:52 a 1:66 a")),
@@ -201,7 +205,7 @@ BOARD_OPERATORS = [
     (b"test = y; test a = b = c", several(no_operator_of_board, "1:6 = 1:22 =")),
     (b"test -n a; test -z ''; test a = b; test a != b; test a < b; test a > b", []),
     (b"test 1 -eq 2; test 1 -ne 2; test 1 -lt 2; test 1 -le 2; test 1 -gt 2; test 1 -ge 2", []),
-    (b"test a = b -a c != d -o ! -n e -a ! ! f < g", []),
+    (b"test a = b -a c != d -o ! -n e; test a = b -a ! ! f < g", []),
     # what a board reads, and the strict shell doesn't
     (b"test -n a -n b; test a = b c = d; test -a -n x; test -n a -o; test ! = x; test -a = x; test ! -a a = b", []),
     (b"test a = -e; test -n -e; test -z ==; test a = ==; test ! -n -e", []),
@@ -258,7 +262,7 @@ LACKED = [
     (b"break\r\n[\r", [returned("1:6"), not_called("1:1", "break\r"), not_called("2:1", "[\r")]),
     (b"echo break continue [ [[ return case function f()", []),
     (b"setenv break '['; b=return; for b in case; do true; done; for continue in 1; do true; done", []),
-    (b"break=1; case=; function='['; # break", []),
+    (b"break=1; case=; function='['; # break", [leaves("1:10")]),
     (b"run break", [not_run("1:5", "break")]),
     (b"Break; break2; breaks; b; ]; [a; [[[", several(not_called, "1:1 Break 1:8 break2 1:16 breaks 1:24 b 1:27 ] 1:30 [a 1:34 [[[")),
     (b"f () { mmc; }", [no_functions("1:1"), not_called("1:13", "}")]),
@@ -290,7 +294,7 @@ SUBSTITUTED = [
     (b"echo \xc3\xa9 $none", [not_defined("1:9", "none")]),
     (b"echo \\\n $none a\\\n$none", [not_defined("2:2", "none"), not_defined("2:8", "none")]),
     (b"echo ${a-b} ${#} ${?}", several(not_defined, "1:6 a-b 1:13 # 1:18 ?")),
-    (b"b=$none; c=; d='$none'; e=a\"$none\"", [not_defined("1:3", "none"), not_defined("1:27", "none")]),
+    (b"b=$none; c=; d='$none'; e=a\"$none\"", [not_defined("1:3", "none"), leaves("1:10"), not_defined("1:27", "none")]),
     (b"b\\\n=$none", [not_defined("2:2", "none")]),
     (b"b=\\\n$none", [not_defined("1:3", "none")]),
     (b"b==$none; c=a=$none", [not_defined("1:3", "none"), not_defined("1:13", "none")]),
@@ -338,7 +342,7 @@ SUBSTITUTED = [
 ]  # fmt: skip
 # Of these each is defined
 DEFINED = [
-    b"echo $a ${x} $s$run ${\xc3\xa9}", b"true; echo '$none' \\$none \"\\$none\" $ $, $? \"$?\"", b"none=1; echo $none", b"echo $none; none=",
+    b"echo $a ${x} $s$run ${\xc3\xa9}", b"true; echo '$none' \\$none \"\\$none\" $ $, $? \"$?\"", b"none=1; echo $none", b"echo $none; none=x",
     b"none=a$none", b"for none in 1; do echo $none; done; echo $none", b"for none in $none; do true; done", b"setenv none 1; echo $none",
     b"echo $none; setenv none", b"setenv -f none 1; b=$none", b"setexpr none 1 + 2; echo $none", b"env exists none && echo $none",
     b"echo $none none", b"echo ${none}; printenv none", b"setenv 'none' 1; echo $none", b"setenv no\"n\"\\e 1; echo $none",
@@ -467,7 +471,7 @@ def each_way(script, found, words=()):
     yield over({b"a": b"1", b"s": script}, [b"s", *words], lines(found, "s"))
     yield of_file(script, [*words], lines(found, "a:1 b"))
     yield of_file(script, with_stand_ins(words), lines(found, "a:1 b"), files)
-    yield row("a check of standard input", [*words, b"-f", b"-"], {}, lines(found, "-"), given=script)
+    yield row("a check of standard input", [*words, *QUOTING, b"-f", b"-"], {}, lines(found, "-"), given=script)
 
 
 def every_way(script, found, stand_ins=STAND_INS):
@@ -509,7 +513,7 @@ def starts():
     for script, found in [*STARTS, *((script, []) for script in FORESEEN), *ASSIGNED]:
         yield over(VARIABLES | {b"s": script}, [b"s"], lines(on_board(found), "s"))
         yield over(VARIABLES | {b"s": script}, [b"s", *STRICT], lines(found, "s"))
-        yield of_file(script, [], lines([each for each in found if each.endswith(("[wrong-use]", "[stale-status]"))], "a:1 b"))
+        yield of_file(script, [], lines([each for each in found if each.endswith(("[wrong-use]", "[stale-status]", "[empty-assignment]"))], "a:1 b"))
         if not found:
             yield over(VARIABLES | {b"s": script}, [b"s", b"ok", b"a"], b"")
     over_these = {name: value for name, value in VARIABLES.items() if name != b"a"}

@@ -6,11 +6,11 @@ import re
 from differential.harness.boards import CONFIG, STRICT, arguments, board, calls, text_of
 
 from differential.harness.check_lines import (
-    NOTHING, any_target, cut_off, hidden, hidden_then, lacked, last, lines, no_calculation, no_script, no_setting, no_operator_of_board, no_variable, not_assigned, not_assigned_then, not_called, not_defined, not_run, not_typed, of_if, of_loop, on_board, returned,
+    NOTHING, QUOTING, any_target, cut_off, drops_at_load, hidden, hidden_then, lacked, last, lines, no_calculation, no_script, no_setting, no_operator_of_board, no_variable, not_assigned, not_assigned_then, not_called, not_defined, not_run, not_typed, of_if, of_loop, on_board, pointed, returned,
     row, runs_nothing, stale, with_stand_ins, without,
 )  # fmt: skip
 from differential.harness.running import Case
-from differential.rows import check_kinds
+from differential.rows import check_differences, check_kinds
 from differential.rows.check_kinds import STAND_INS
 from differential.rows.script_rows import NO_ENVIRONMENTS, NO_SIZES, absent, longer
 from differential.rows.tool_rows import FIRST, PAIR, SECOND
@@ -49,7 +49,7 @@ FOLLOWED = [
     (b"a=run b\nb=run a c\nc=run c; run n\n", [b"a"], [not_run("c:1:12", "n")]),
     (b"a=run b\nb=run n\n", [b"b", b"a"], [not_run("b:1:5", "n")]),
     (b"a=run c b\nb=run n1\nc=run n2\n", [b"a", b"b"], [not_run("b:1:5", "n1"), not_run("c:1:5", "n2")]),
-    (b"bootcmd=true && run 'it''s' && run two\\\\ words\nits=run n1\ntwo words=run n2\n", [], [not_run("its:1:5", "n1"), not_run("two words:1:5", "n2")]),
+    (b"bootcmd=true && run 'it''s' && run two\\\\ words\nits=run n1\ntwo words=run n2\n", [], [drops_at_load("bootcmd:1:31"), not_run("its:1:5", "n1"), not_run("two words:1:5", "n2")]),
     (b"bootcmd=env run a\na=run n\n", [], []),
     (b"bootcmd=if false; then while false; do run a; done; fi\na=run n\n", [], [not_run("a:1:5", "n")]),
     (b"bootcmd=for i in 1 2; do run a$i; run \"$x\"; done\na1=run n\nx=a1\n", [], [any_target("bootcmd:1:31"), not_run("a1:1:5", "n")]),
@@ -315,35 +315,38 @@ def known():
     )
 
 
-def many(kind, count, column=1, word="a"):
-    """What is printed of findings of this kind, one in each of so many lines."""
-    return cut_off([lines([kind(f"{number}:{column}", word)], "s") for number in range(1, count + 1)])
+def many(kind, count, text, column=1, word="a"):
+    """What is printed of findings of this kind, one in each of so many lines with this text."""
+    return cut_off([pointed(lines([kind(f"{number}:{column}", word)], "s"), text, column) for number in range(1, count + 1)])
 
 
 def limits():
     """Lines that take up to 65,536 bytes and one byte less, and what is found after them; an error without a line counts."""
-    start, files = [lines([not_called(f"{number}:1", "a")], "s") for number in range(1, 801)], {b"stand-ins": b""}
-    room = 65_536 - len(b"".join(start)) - len(lines([not_called("801:1", "")], "s"))
+    start, files = [pointed(lines([not_called(f"{number}:1", "a")], "s"), b"a") for number in range(1, 801)], {b"stand-ins": b""}
+    cut = b"x" * 40 + b"..."
+    room = 65_536 - len(b"".join(start)) - len(pointed(lines([not_called("801:1", "")], "s"), cut))
     for length in (room - 1, room, room + 1):
         for rest in ([], [b"b"], [b"b", b"c"]):
             names = [b"x" * length, *rest]
-            found = [lines([not_called(f"{number}:1", name.decode())], "s") for number, name in enumerate(names, 801)]
+            found = [pointed(lines([not_called(f"{number}:1", name.decode())], "s"), min(name, cut)) for number, name in enumerate(names, 801)]
             files[b"s"] = b"a\n" * 800 + b"\n".join(names)
             said = (800 + len(names), 0)
             yield row("many lines", with_stand_ins([b"-f", b"s"]), dict(files), cut_off(start + found), seconds=1, found=said)
     for rest, flags, status in ((b"", b"s", 0), (b"run none\n", b"s", 1), (b"", b"d", 1)):
         files = {b"env": text_of({b"a": b"1", b"n": b"x", b"s": b"a=1\n" * 2_000 + rest, b".flags": b"n:" + flags})}
-        yield row("many warnings", [b"--env", b"env", b"s"], files, many(hidden, 2_000), seconds=1, found=(status, 2_000))
-        yield row("many warnings", [*STRICT, b"--env", b"env", b"s"], files, many(not_assigned, 2_000), seconds=1, found=(status, 2_000))
-    in_one_word = cut_off([lines([not_defined("1:6", name)], "s") for name in "nm" * 750])
+        yield row("many warnings", [b"--env", b"env", b"s"], files, many(hidden, 2_000, b"a=1"), seconds=1, found=(status, 2_000))
+        yield row("many warnings", [*STRICT, b"--env", b"env", b"s"], files, many(not_assigned, 2_000, b"a=1"), seconds=1, found=(status, 2_000))
+    in_one_word = cut_off([pointed(lines([not_defined("1:6", name)], "s"), b"echo " + b"$n$m" * 10 + b"...", 6) for name in "nm" * 750])
     for script, output, found in (
-        (b"echo $n\n" * 1_500, many(not_defined, 1_500, 6, "n"), (0, 1_500)),
-        (b"echo $n\n" * 1_500 + b"break\n", many(not_defined, 1_500, 6, "n"), (1, 1_500)),
+        (b"echo $n\n" * 1_500, many(not_defined, 1_500, b"echo $n", 6, "n"), (0, 1_500)),
+        (b"echo $n\n" * 1_500 + b"break\n", many(not_defined, 1_500, b"echo $n", 6, "n"), (1, 1_500)),
         (b"echo " + b"$n$m" * 750, in_one_word, (0, 1_500)),
-        (b"echo " + b"$n" * 1_500, lines([not_defined("1:6", "n")], "s"), (0, 1)),
+        (b"echo " + b"$n" * 1_500, pointed(lines([not_defined("1:6", "n")], "s"), b"echo " + b"$n" * 20 + b"...", 6), (0, 1)),
     ):
         yield row("many substitutions", [b"--env", b"env", b"s"], {b"env": text_of({b"s": script})}, output, seconds=1, found=found)
-    yield row("many that are lacked", [b"-f", b"s"], {b"s": b"break\n" * 2_000}, many(lacked, 2_000, word="break"), seconds=1, found=(2_000, 0))
+    yield row(
+        "many that are lacked", [b"-f", b"s"], {b"s": b"break\n" * 2_000}, many(lacked, 2_000, b"break", word="break"), seconds=1, found=(2_000, 0)
+    )
     names = [b"name%04d" % number for number in range(1_500)]
     output = cut_off([lines([no_variable(name.decode())]) for name in names])
     yield row("many names", [b"--env", b"env", *names], {b"env": b"bootcmd=true\n"}, output, seconds=1, found=(1_501, 0))
@@ -457,7 +460,7 @@ def formats():
             line = b"s:1:1: error: no builtin and no stand-in is called `%s` [unknown-command]\n"
             if given == b"json":
                 line = b'{"code":"unknown-command","column":1,"file":"s","line":1,"message":"no builtin and no stand-in is called `%s`","severity":"error","variable":null}\n'
-            yield in_format("odd bytes", given, [b"-f", b"s", b"--stubs", b"none"], files, line % said, (1, 0))
+            yield in_format("odd bytes", given, [b"-f", b"s", b"--stubs", b"none", *QUOTING], files, line % said, (1, 0))
     for given in (b"text", b"gcc", b"json"):
         yield Case("more than is printed", [b"check", b"-f", b"s", b"--format", given], {b"s": b"break\n" * 3_000}, seconds=1)
         yield Case("odd names", [b"check", b"--env", b"env", b"--format", given, b"x\ty", b"\xc3\xa9"], {b"env": b"\xff=1\n.flags=x:d\n"})
@@ -589,7 +592,12 @@ def opened():
     yield row("the wrong order", arguments(b"check")[1:], files, lines([NOTHING]), WARNING)
     yield row("a big-endian text", [b"--big-endian", b"--env", b"env"], {b"env": b"bootcmd=run n\n"}, found)
     yield row("a big-endian script", [b"--big-endian", b"-f", b"s"], {b"s": b"'"}, lines([no_script("1:1", "Quote")], "s"))
-    yield Case("before the subcommand", [b"--big-endian", b"check", b"-c", CONFIG], files, wanted=Answer(1, found, last(1, 1, 0), files))
+    yield Case(
+        "before the subcommand",
+        [b"--big-endian", b"check", b"-c", CONFIG],
+        files,
+        wanted=Answer(1, pointed(found, b"run n", 5), last(1, 1, 0), files),
+    )
     for text, size, errors in NO_ENVIRONMENTS:
         files = {} if text is None else {b"env": text}
         sized = [b"--env", b"env"] if size is None else [b"--env", b"env", b"--size=" + size]
@@ -620,10 +628,25 @@ def words():
     yield row("longer standard input", [b"-f", b"-"], {}, b"", longer(b"-"), given=too_long, seconds=2)
     yield row("no standard input", [b"-f", b"-"], {}, b"")
     yield row("standard input that isn't asked for", [b"--env", b"env"], {b"env": b"a=1\n"}, lines([NOTHING]), given=b"'")
-    case = row("a path as it is given", [b"-f", b"./script"], {b"script": b"'"}, lines([no_script("1:1", "Quote")], "./script"), scripts=1)
+    told = pointed(lines([no_script("1:1", "Quote")], "./script"), b"'")
+    case = row("a path as it is given", [b"-f", b"./script"], {b"script": b"'"}, told, scripts=1)
     case.is_modelled = False
     yield case
 
 
 def chunks():
-    return [*check_kinds.chunks(), followed, all_looked_at, known, limits, counting, formats, places, several, over_environment, opened, words]
+    return [
+        *check_kinds.chunks(),
+        *check_differences.chunks(),
+        followed,
+        all_looked_at,
+        known,
+        limits,
+        counting,
+        formats,
+        places,
+        several,
+        over_environment,
+        opened,
+        words,
+    ]

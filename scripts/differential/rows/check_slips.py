@@ -4,8 +4,8 @@ alone, or why there is none."""
 from differential.harness.boards import text_of
 
 from differential.harness.check_lines import (
-    backquoted, braced, hidden, lacked_test, lost_test, no_calculation, no_expression, no_number, no_operator_of_board, no_script, no_separator, no_setting,
-    no_subcommand, not_called, not_defined, not_run, over, redirected, runs_nothing,
+    apostrophe, backquoted, braced, drops_at_load, empties, hidden, lacked_test, leaves, loose, lost_test, no_calculation, no_calculator, no_expression, no_number, no_operator_of_board, no_script, no_separator, no_setting,
+    no_subcommand, no_words_of_env, not_called, not_defined, not_run, over, redirected, runs_nothing,
 )  # fmt: skip
 from differential.harness.running import Case
 
@@ -73,6 +73,14 @@ SLIPS = [
     (b"run loadkernel | run mmcboot", no_script("1:16", "Operator")),
     (b"run loadkernel and run loadfdt", not_run("1:16", "and")),
     (b"run mmcboot || echo no card |& reset", no_script("1:29", "Operator")),
+    # what a board makes in another way
+    (b"run loadkernel &&\nrun mmcboot", loose("1:18")),
+    (b"run loadkernel \\\n  loadfdt; run mmcboot", drops_at_load("1:16")),
+    (b'echo "don\'t worry"; run mmcboot', apostrophe("1:10")),
+    (b"bootfile=; run netboot", leaves("1:1")),
+    (b'setenv bootdir ""; run mmcboot', empties("1:16")),
+    (b"setexpr n ${mmcdev} ++ 1; mmc dev ${n}", no_calculator("1:1")),
+    (b"env exists bootdir fdtfile && run mmcboot", no_words_of_env("1:1")),
     # names of variables
     (b"load mmc ${bootprat} ${loadaddr} zImage", not_defined("1:10", "bootprat")),
     (b"run mmc_boot", not_run("1:5", "mmc_boot")),

@@ -29,3 +29,21 @@ returns-in-Number c =
     ok-then c.add-in-Number.result _ _
     (λ e. e ∙ ap (λ f. found_more c.args.findings.now (found_at c.args.count kind.WrongUse (misuse_sentence f) ∷ [])) (sym c.in-Number.is))
     c.add-in-Number.ensures
+
+pub returns-in-Operator : goal.returns-in-Operator
+returns-in-Operator c =
+    ok-then c.add-in-Operator.result _ _
+    (λ e. e ∙ ap (λ f. found_more c.args.findings.now (found_at c.args.count kind.WrongUse (misuse_sentence f) ∷ [])) (sym c.in-Operator.is))
+    c.add-in-Operator.ensures
+
+pub returns-in-Operands : goal.returns-in-Operands
+returns-in-Operands c =
+    ok-then c.add-in-Operands.result _ _
+    (λ e. e ∙ ap (λ f. found_more c.args.findings.now (found_at c.args.count kind.WrongUse (misuse_sentence f) ∷ [])) (sym c.in-Operands.is))
+    c.add-in-Operands.ensures
+
+pub returns-in-Saving : goal.returns-in-Saving
+returns-in-Saving c =
+    ok-then c.add-in-Saving.result _ _
+    (λ e. e ∙ ap (λ f. found_more c.args.findings.now (found_at c.args.count kind.WrongUse (misuse_sentence f) ∷ [])) (sym c.in-Saving.is))
+    c.add-in-Saving.ensures

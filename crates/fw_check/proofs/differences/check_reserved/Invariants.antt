@@ -1,0 +1,9 @@
+use Rattle.std.proofs.Common.{◌≡◌, drop}
+use Rattle.std.specs.List.{flat_map}
+use Rattle.fw_check.specs.Findings.{reserved_findings}
+use Rattle.fw_check.specs.Found.{found_more}
+use Rattle.fw_check.proofs.differences.check_reserved.Given as goal
+
+abbrev pub invariant-loop-word : goal.invariant-loop-word
+invariant-loop-word l =
+    found_more l.findings (flat_map (reserved_findings l.text) (drop l.word-index l.words)) ≡ found_more l.initial.findings (flat_map (reserved_findings l.text) l.words)

@@ -1,0 +1,11 @@
+use Rattle.std.proofs.Common.{◌≡◌, drop}
+use Rattle.std.specs.List.{flat_map}
+use Rattle.fw_check.specs.Findings.{reread_findings}
+use Rattle.fw_check.specs.Found.{found_more}
+use Rattle.fw_check.specs.Looking.{known_in}
+use Rattle.fw_check.proofs.reread.check_values.Given as goal
+
+abbrev pub invariant-loop-word : goal.invariant-loop-word
+invariant-loop-word l =
+    found_more l.findings (flat_map (reread_findings (known_in l.lookups) l.cut l.text) (drop l.word-index l.words))
+    ≡ found_more l.initial.findings (flat_map (reread_findings (known_in l.lookups) l.cut l.text) l.words)
