@@ -8,7 +8,8 @@ use Rattle.hush_commands.specs.declared.shell.Shell.TheVariants.{Board}
 use Rattle.finding_kinds.specs.declared.kinds.FindingKind.{FindingKind}
 use Rattle.finding_kinds.specs.declared.kinds.FindingKind.TheVariants as kind
 use Rattle.fw_check.specs.Excerpts.{Spot, excerpt_at, excerpt_of}
-use Rattle.fw_check.specs.Findings.{Finding, is_reserved, stored_findings, unset_findings}
+use Rattle.fw_check.specs.ReportLines.{Finding}
+use Rattle.fw_check.specs.Findings.{is_reserved, stored_findings, unset_findings}
 use Rattle.fw_check.specs.Following.{is_among}
 use Rattle.fw_check.specs.Knowing.{Known, is_recut, rereads, reread_names, short_value}
 use Rattle.fw_check.specs.Lines.{File, Variable}

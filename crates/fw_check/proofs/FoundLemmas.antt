@@ -6,7 +6,8 @@ use Rattle.std.proofs.lemmas.Grind.{fold-append}
 use Rattle.memchr.specs.Find.{IsFirstByte, is_byte}
 use Rattle.text_parts.proofs.CutLemmas.{list_any-answer, position_or_len-found}
 use Rattle.finding_kinds.specs.declared.kinds.FindingKind.{FindingKind}
-use Rattle.fw_check.specs.Findings.{Finding, Report, first_findings, found_at, with_finding, with_findings}
+use Rattle.fw_check.specs.ReportLines.{Finding, Report, found_at, with_finding, with_findings}
+use Rattle.fw_check.specs.Findings.{first_findings}
 use Rattle.fw_check.specs.Found.{Found, found_more}
 use Rattle.fw_check.specs.Origins.{Origin}
 

@@ -3,7 +3,8 @@ use Rattle.std.proofs.Common.{◌≡◌, ℕ, zero, suc, Bool, true, false, List
 use Rattle.std.proofs.lemmas.Bool.{lt-ltb, ltb-true}
 use Rattle.hush_words.specs.declared.parts.Word.{Word}
 use Rattle.finding_kinds.specs.declared.kinds.FindingKind.TheVariants as kind
-use Rattle.fw_check.specs.Findings.{found_at, many_from, many_sentence}
+use Rattle.fw_check.specs.ReportLines.{found_at}
+use Rattle.fw_check.specs.CommandFindings.{many_from, many_sentence}
 
 pub many-at : (words : List Word) (n : ℕ) (d : Word) → true ≡ nat_lt n (length words) → many_from (drop n words) ≡ found_at (slice_index_or words n d).start kind.ManyWords many_sentence ∷ []
 many-at [] zero d h = absurd (let no : ◌≡◌ {A = Bool} true false = h in cc)

@@ -18,7 +18,9 @@ use Rattle.fw_check.specs.Called.{Given, called_by, given_with}
 use Rattle.fw_check.specs.Following.{is_among, names_with}
 use Rattle.fw_check.specs.Foreign.{foreign_of, plain_of}
 use Rattle.fw_check.specs.declared.foreign.Foreign.TheVariants as foreign
-use Rattle.fw_check.specs.Findings.{Finding, called_findings, found_at, lacking_sentence, name_findings, names_findings, target_findings, undefined_sentence}
+use Rattle.fw_check.specs.ReportLines.{Finding, found_at}
+use Rattle.fw_check.specs.CommandFindings.{called_findings, target_findings, undefined_sentence}
+use Rattle.fw_check.specs.Findings.{lacking_sentence, name_findings, names_findings}
 use Rattle.fw_check.specs.Knowing.{Known, set_by_commands}
 use Rattle.fw_check.specs.Literals.{Front, front_of, is_word_of, literal_of, substituted}
 use Rattle.fw_check.specs.Misuse.{has_odd, is_calculated_wrong, is_set_wrong}

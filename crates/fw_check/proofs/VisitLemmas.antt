@@ -15,7 +15,8 @@ use Rattle.finding_kinds.specs.declared.kinds.FindingKind.TheVariants as kind
 use Rattle.fw_check.specs.Checking.{AreFollowed, AreVisited, Faulty, Reports, Script, Visit, after_visit, follow_texts, in_all, in_read, known_after, origin_in, reading_findings, script_in}
 use Rattle.fw_check.specs.EntryPlaces.{EnvironmentText}
 use Rattle.fw_check.specs.Called.{Given, in_answers}
-use Rattle.fw_check.specs.Findings.{Report, fault_sentence, found_at, return_findings, stored_findings, with_findings, with_script}
+use Rattle.fw_check.specs.ReportLines.{Report, found_at, with_findings, with_script}
+use Rattle.fw_check.specs.Findings.{fault_sentence, return_findings, stored_findings}
 use Rattle.fw_check.specs.Knowing.{Known}
 use Rattle.fw_check.specs.Following.{Followed, begin_all, begin_from, follow_fronts, is_among}
 use Rattle.fw_check.specs.Found.{Found, found_more}

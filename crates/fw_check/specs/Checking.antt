@@ -28,7 +28,8 @@ use Rattle.fw_check.specs.Following.{Followed, follow_fronts, is_among, is_set}
 use Rattle.fw_check.specs.Literals.{Front}
 use Rattle.fw_check.specs.Naming.{asked_in, foreseen_in, given_in, run_in, written_in}
 use Rattle.fw_check.specs.EntryPlaces.{EnvironmentText}
-use Rattle.fw_check.specs.Findings.{Finding, fault_sentence, found_at, return_findings, item_findings, Report, no_lines, report_end, stored_findings, with_alone, with_findings, with_placed, with_script}
+use Rattle.fw_check.specs.ReportLines.{Finding, found_at, Report, no_lines, report_end, with_alone, with_findings, with_placed, with_script}
+use Rattle.fw_check.specs.Findings.{fault_sentence, return_findings, item_findings, stored_findings}
 use Rattle.fw_check.specs.Knowing.{Known, is_recut, names_by, rereads}
 use Rattle.fw_check.specs.Lines.{Variable, Whole}
 use Rattle.fw_check.specs.Origins.{Origin, origin_of, subject_of, value_place}

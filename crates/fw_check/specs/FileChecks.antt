@@ -7,7 +7,7 @@ use Rattle.fw_engines.specs.declared.tool_end.ToolEnd.{ToolEnd}
 use Rattle.fw_check.specs.Called.{Given}
 use Rattle.fw_check.specs.Checking.{AreAsked, AreVisited, LacksMemory, PrintsReport, Reports, first_report, follow_texts, known_after, with_whole}
 use Rattle.fw_check.specs.EntryPlaces.{EnvironmentText}
-use Rattle.fw_check.specs.Findings.{Report, no_lines}
+use Rattle.fw_check.specs.ReportLines.{Report, no_lines}
 use Rattle.fw_check.specs.Following.{Followed, begin_with, is_among}
 use Rattle.fw_check.specs.Knowing.{Known}
 use Rattle.fw_check.specs.Lines.{File}

@@ -1,6 +1,6 @@
 -- What was found so far in a script.
 use Rattle.std.specs.Prelude.{ℕ, List}
-use Rattle.fw_check.specs.Findings.{Finding, Report, with_findings}
+use Rattle.fw_check.specs.ReportLines.{Finding, Report, with_findings}
 use Rattle.fw_check.specs.Origins.{Origin}
 
 -- what the script is, its text, and the report with what was found in it

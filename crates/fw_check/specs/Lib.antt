@@ -18,6 +18,8 @@ pub mod Lines
 pub mod JsonLines
 pub mod EntryPlaces
 pub mod Origins
+pub mod ReportLines
+pub mod CommandFindings
 pub mod Findings
 pub mod Quoting
 pub mod Summaries

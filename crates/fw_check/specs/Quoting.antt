@@ -2,7 +2,7 @@
 use Rattle.std.specs.Prelude.{ℕ, suc, ◌==◌, ◌-◌, ◌&&◌, ◌||◌, Bool, true, false, List, [], ◌∷◌, ◌++◌, codes, Option, Some, None, if◌then◌else◌}
 use Rattle.finding_kinds.specs.declared.kinds.FindingKind.{FindingKind}
 use Rattle.finding_kinds.specs.declared.kinds.FindingKind.TheVariants as kind
-use Rattle.fw_check.specs.Findings.{Finding, found_at}
+use Rattle.fw_check.specs.ReportLines.{Finding, found_at}
 use Rattle.fw_check.specs.declared.quoting.Inside.{Inside}
 use Rattle.fw_check.specs.declared.quoting.Inside.TheVariants.{Gap, GapEscape, Comment, Plain, Escape, Dollar, Single, Double, DoubleEscape, DoubleDollar}
 use Rattle.fw_check.specs.declared.quoting.Odd.{Odd}

@@ -7,7 +7,8 @@ use Rattle.fw_check.specs.declared.items.Item.{Item}
 use Rattle.fw_check.specs.Statements.{AreItemsOf}
 use Rattle.fw_check.specs.Checking.{IsReading, Reading, findings, reading_findings}
 use Rattle.fw_check.specs.Called.{Given}
-use Rattle.fw_check.specs.Findings.{Report, item_findings, with_findings, with_script}
+use Rattle.fw_check.specs.ReportLines.{Report, with_findings, with_script}
+use Rattle.fw_check.specs.Findings.{item_findings}
 use Rattle.fw_check.specs.Knowing.{Known}
 use Rattle.fw_check.specs.Found.{Found, found_more}
 use Rattle.fw_check.specs.Origins.{Origin}

@@ -1,7 +1,7 @@
 -- The last line of a check (docs/check.md).
 use Rattle.std.specs.Prelude.{ℕ, ◌==◌, List, [], ◌++◌, codes, if◌then◌else◌}
 use Rattle.std.specs.Fmt.{decimal}
-use Rattle.fw_check.specs.Findings.{Report}
+use Rattle.fw_check.specs.ReportLines.{Report}
 
 abbrev pub plural : ℕ → List ℕ
 plural n = if n == 1 then [] else codes "s"

@@ -2,7 +2,8 @@
 ghost use Rattle.std.specs.Prelude.{◌≡◌, [], ◌∷◌, IfOk, OnOk, option_map};
 ghost use Rattle.hush_words.specs.Parts.{word_atoms};
 ghost use Rattle.fw_check.specs.Commands.{command_sentence, kind_of};
-ghost use Rattle.fw_check.specs.Findings.{called_findings, command_findings, found_at, known_name, lost_findings};
+ghost use Rattle.fw_check.specs.ReportLines.{found_at};
+ghost use Rattle.fw_check.specs.CommandFindings.{called_findings, command_findings, known_name, lost_findings};
 ghost use Rattle.fw_check.specs.Found.{found_more};
 ghost use Rattle.fw_check.specs.Looking.{hardware_in, known_in, rules_in};
 

@@ -1,7 +1,8 @@
 //! What boards do in different ways (docs/differences.md).
 ghost use Rattle.std.specs.Prelude.{◌≡◌, OnOk, option_map};
 ghost use Rattle.std.specs.List.{flat_map, list_any};
-ghost use Rattle.fw_check.specs.Findings.{cut_findings, exit_if, is_cut, is_cut_in, is_literal_cut, is_reserved, many_findings, reserved_findings, unset_findings};
+ghost use Rattle.fw_check.specs.CommandFindings.{exit_if, many_findings};
+ghost use Rattle.fw_check.specs.Findings.{cut_findings, is_cut, is_cut_in, is_literal_cut, is_reserved, reserved_findings, unset_findings};
 ghost use Rattle.hush_words.specs.Parts.{word_atoms};
 ghost use Rattle.fw_check.specs.Found.{found_more};
 ghost use Rattle.fw_check.specs.Literals.{literal_of};

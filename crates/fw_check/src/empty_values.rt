@@ -1,13 +1,14 @@
 //! A `setenv` of an empty value, with which a board keeps the variable.
 ghost use Rattle.std.specs.Prelude.{◌≡◌, IfOk, OnOk, option_map};
 ghost use Rattle.hush_words.specs.Parts.{word_atoms};
-ghost use Rattle.fw_check.specs.Findings.{after_force, after_set, empty_findings, only_value, set_words, value_findings};
+ghost use Rattle.fw_check.specs.CommandFindings.{after_force, after_set, empty_findings, only_value, set_words, value_findings};
 ghost use Rattle.fw_check.specs.Found.{found_more};
 ghost use Rattle.fw_check.specs.Literals.{literal_of};
 
 use crate::findings::Findings;
 use crate::literals::{is_called, literal};
 use crate::lookups::Lookups;
+use crate::operands::after_force;
 use finding_kinds::FindingKind;
 use hush_syntax::{Text, Word};
 use std::alloc::{AllocError, Global};
@@ -101,24 +102,5 @@ fn after_set<'w>(
         after_force(lookups.alloc, text, &words[1..])
     } else {
         Ok(&[])
-    }
-}
-
-/// The words behind `-f`, if it is there.
-pub(crate) fn after_force<'w>(
-    alloc: Global,
-    text: &Text,
-    words: &'w [Word],
-) -> Result<&'w [Word], AllocError>
-    ensures { IfOk result (λ rest. rest.now ≡ after_force text.now words.now) }
-{
-    if words.is_empty() {
-        return Ok(words);
-    }
-    let first = literal(alloc, text, words[0])?;
-    if is_called(&first, b"-f") {
-        Ok(&words[1..])
-    } else {
-        Ok(words)
     }
 }

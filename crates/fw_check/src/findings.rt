@@ -2,7 +2,8 @@
 ghost use Rattle.std.specs.Prelude.{◌≡◌, ◌++◌, [], ◌∷◌, None, OnOk};
 ghost use Rattle.finding_kinds.specs.declared.kinds.FindingKind.TheVariants as kind;
 ghost use Rattle.finding_kinds.specs.Choices.{choice_view};
-ghost use Rattle.fw_check.specs.Findings.{counted, fault_sentence, first_findings, found_at, has_line, no_lines, noted, return_findings, stored_findings, with_alone, with_placed, with_script};
+ghost use Rattle.fw_check.specs.ReportLines.{counted, found_at, has_line, no_lines, noted, with_alone, with_placed, with_script};
+ghost use Rattle.fw_check.specs.Findings.{fault_sentence, first_findings, return_findings, stored_findings};
 ghost use Rattle.fw_check.specs.Found.{found_more};
 ghost use Rattle.fw_check.specs.JsonLines.{line_in};
 ghost use Rattle.fw_check.specs.Lines.{line_view, subject_view};
@@ -42,7 +43,7 @@ pub(crate) struct Report<'c> {
 
 impl<'c> Model for Report<'c> {
     ghost use Rattle.finding_kinds.specs.Choices.{choice_view};
-    ghost use Rattle.fw_check.specs.Findings.{Report};
+    ghost use Rattle.fw_check.specs.ReportLines.{Report};
 
     ghost Value = { Report };
 

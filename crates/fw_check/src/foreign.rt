@@ -1,10 +1,9 @@
 //! Words that are written for another shell.
-ghost use Rattle.std.specs.Prelude.{◌≡◌, ◌++◌, ◌∷◌, [], IfOk, OnOk, option_map};
+ghost use Rattle.std.specs.Prelude.{◌≡◌, IfOk, OnOk, option_map};
 ghost use Rattle.std.specs.List.{flat_map, list_any};
 ghost use Rattle.hush_words.specs.Parts.{part_atoms, word_atoms};
 ghost use Rattle.hush_words.specs.Ranges.{Fits};
-ghost use Rattle.finding_kinds.specs.declared.kinds.FindingKind.TheVariants as kind;
-ghost use Rattle.fw_check.specs.Findings.{foreign_findings, found_at};
+ghost use Rattle.fw_check.specs.CommandFindings.{foreign_findings};
 ghost use Rattle.fw_check.specs.Foreign.{begins_redirection, foreign_of, foreign_sentence, is_backquote, is_braced, plain_of};
 ghost use Rattle.fw_check.specs.Found.{found_more};
 
@@ -23,6 +22,19 @@ pub(crate) enum Foreign {
     Braces,
     /// The name of a file for the output, or what precedes one.
     Redirection,
+}
+
+impl Foreign {
+    /// What is said of it.
+    fn sentence(self) -> &'static [u8]
+        ensures { result.now ≡ foreign_sentence self }
+    {
+        match self {
+            Foreign::Backquotes => b"this shell runs nothing in backquotes",
+            Foreign::Braces => b"these braces are a part of the word: write `${NAME}` for a value",
+            Foreign::Redirection => b"this shell redirects nothing",
+        }
+    }
 }
 
 /// Adds those of these words that are written for another shell.
@@ -51,32 +63,16 @@ fn check_word(
 {
     let plain = plain_of(lookups.alloc, text, word)?;
     match foreign_of(&plain) {
-        Some(foreign) => add_foreign(word.start as usize, foreign, findings),
+        Some(foreign) => findings.add(
+            word.start as usize,
+            FindingKind::OtherShell,
+            foreign.sentence(),
+            b"",
+            b"",
+        ),
         None => Ok(()),
     }
 }
-
-/// Adds what is written for another shell.
-fn add_foreign(
-    count: usize,
-    foreign: Foreign,
-    findings: &mut Findings<'_, '_>,
-) -> Result<(), AllocError>
-    ensures { OnOk result (findings.new ≡ found_more findings.old
-        (found_at count kind.OtherShell (foreign_sentence foreign) ∷ [])) }
-{
-    match foreign {
-        Foreign::Backquotes => findings.add(count, FindingKind::OtherShell, BACKQUOTES, b"", b""),
-        Foreign::Braces => findings.add(count, FindingKind::OtherShell, BRACES, b"", b""),
-        Foreign::Redirection => findings.add(count, FindingKind::OtherShell, REDIRECTION, b"", b""),
-    }
-}
-
-const BACKQUOTES: &[u8] = b"this shell runs nothing in backquotes";
-
-const BRACES: &[u8] = b"these braces are a part of the word: write `${NAME}` for a value";
-
-const REDIRECTION: &[u8] = b"this shell redirects nothing";
 
 /// The bytes of a word that are in no quotes and of no substitution.
 pub(crate) fn plain_of(alloc: Global, text: &Text, word: Word) -> Result<Vec<u8>, AllocError>

@@ -2,11 +2,12 @@
 //! names on, as lines. docs/check.md states the rules.
 //!
 //! To read in this order: settings, items, literals, name_set, substitutions, commands, rules, lookups, constants; excerpts, lines, json_lines, entry_places,
-//! origins, findings, summary; operators, foreign, operands, misuse, undefined_names, differences, empty_values, quoting, reread, statuses, command_names, run_targets, statements, script_check; followed, sorted_names, menu,
+//! origins, findings, summary; operators, foreign, calculations, operands, word_pairs, misuse, undefined_names, differences, empty_values, quoting, reread, statuses, command_names, run_targets, statements, script_check; followed, sorted_names, menu,
 //! script_values, following, run_names, foreseen, written, gives, text_names; starts, reading, asking, typed_values, visits; file_checks.
 #![tactic(auto)]
 
 mod asking;
+mod calculations;
 mod command_names;
 mod commands;
 mod constants;
@@ -51,6 +52,7 @@ mod text_names;
 mod typed_values;
 mod undefined_names;
 mod visits;
+mod word_pairs;
 mod written;
 
 pub use entry_places::EnvironmentText;

@@ -1,15 +1,15 @@
-//! Words that a command can't have: of `setenv`, of the commands of `env`, and the operator of `setexpr`.
-ghost use Rattle.std.specs.Prelude.{◌≡◌, ◌&&◌, not, IfOk, option_map};
-ghost use Rattle.hush_words.specs.Parts.{word_atoms};
+//! Words that `setenv`, `env` and the commands of `env` can't have.
+ghost use Rattle.std.specs.Prelude.{◌≡◌, IfOk, map, option_map};
 ghost use Rattle.std.specs.List.{list_any};
 ghost use Rattle.hush_syntax.specs.Trees.{words_in};
-ghost use Rattle.fw_check.specs.Literals.{literal_of};
+ghost use Rattle.fw_check.specs.CommandFindings.{after_force};
+ghost use Rattle.fw_check.specs.Called.{is_after_env};
 ghost use Rattle.fw_check.specs.Looking.{front_view};
-ghost use Rattle.fw_check.specs.Misuse.{begin_with, begin_wrong, ends_name, is_name_wrong, is_no_operator, is_nothing, is_one, is_operand_wrong, is_operated_wrong, is_set_wrong, is_subcommand_wrong, is_text_form, without_force};
+ghost use Rattle.fw_check.specs.Misuse.{is_env_wrong, is_no_subcommand, begin_with, ends_name, is_name_wrong, is_nothing, is_operand_wrong, is_set_wrong, is_subcommand_wrong, without_force};
 
-use crate::literals::{Front, front_of, is_called, is_word_of, literal};
+use crate::literals::{Front, front_of, is_called, literal};
 use crate::lookups::Lookups;
-use crate::misuse::{is_empty, is_text_form};
+use crate::misuse::{is_empty, is_one};
 use hush_syntax::{Text, Word};
 use std::alloc::{AllocError, Global};
 
@@ -17,7 +17,7 @@ use std::alloc::{AllocError, Global};
 pub(crate) fn is_set_wrong(alloc: Global, text: &Text, words: &[Word]) -> Result<bool, AllocError>
     ensures { IfOk result (λ wrong. wrong ≡ is_set_wrong (words_in text.now words.now)) }
 {
-    let rest = without_force(alloc, text, words)?;
+    let rest = after_force(alloc, text, words)?;
     is_name_wrong(alloc, text, rest)
 }
 
@@ -42,12 +42,13 @@ fn is_nothing(name: &Front) -> bool
 }
 
 /// The words behind `-f`, if it is there.
-fn without_force<'w>(
+pub(crate) fn after_force<'w>(
     alloc: Global,
     text: &Text,
     words: &'w [Word],
 ) -> Result<&'w [Word], AllocError>
-    ensures { IfOk result (λ rest. words_in text.now rest.now ≡ without_force (words_in text.now words.now)) }
+    ensures words { IfOk result (λ rest. rest.now ≡ after_force text.now words.now) }
+    ensures atoms { IfOk result (λ rest. words_in text.now rest.now ≡ without_force (words_in text.now words.now)) }
 {
     if words.is_empty() {
         return Ok(words);
@@ -84,14 +85,62 @@ fn ends_name(b: u8) -> bool
     b == b' ' || b == b'='
 }
 
-/// Whether these words are one.
-pub(crate) fn is_one(text: &Text, words: &[Word]) -> bool
-    ensures { result ≡ is_one (words_in text.now words.now) }
+/// The commands of U-Boot's `env`.
+const SUBCOMMANDS: [&[u8]; 19] = [
+    b"ask",
+    b"callbacks",
+    b"default",
+    b"delete",
+    b"edit",
+    b"erase",
+    b"exists",
+    b"export",
+    b"flags",
+    b"grep",
+    b"import",
+    b"indirect",
+    b"info",
+    b"load",
+    b"print",
+    b"run",
+    b"save",
+    b"select",
+    b"set",
+];
+
+/// Whether `env` with these arguments has none of its commands.
+pub(crate) fn is_env_wrong(
+    lookups: &Lookups<'_>,
+    text: &Text,
+    words: &[Word],
+) -> Result<bool, AllocError>
+    ensures { IfOk result (λ wrong. wrong ≡ is_env_wrong lookups.now.rules.shell (words_in text.now words.now)) }
 {
-    match words {
-        [_word] => true,
-        _ => false,
+    if words.is_empty() {
+        return Ok(true);
     }
+    let first = literal(lookups.alloc, text, words[0])?;
+    Ok(is_no_subcommand(lookups, &first))
+}
+
+/// Whether a word behind `env` stands for none of its commands.
+fn is_no_subcommand(lookups: &Lookups<'_>, word: &Option<Vec<u8>>) -> bool
+    ensures { result ≡ is_no_subcommand lookups.now.rules.shell (option_map (λ v. v.items) word.now) }
+{
+    word.is_some() && !stands_for_one(lookups, &SUBCOMMANDS, word)
+}
+
+/// Whether a word behind `env` stands for one of these names.
+fn stands_for_one(lookups: &Lookups<'_>, names: &[&[u8]], word: &Option<Vec<u8>>) -> bool
+    ensures { result ≡ list_any (λ name. is_after_env lookups.now.rules.shell 1 name (option_map (λ v. v.items) word.now))
+        (map (λ n. n.now) names.now) }
+{
+    for name in names {
+        if lookups.is_after_env(1, name, word) {
+            return true;
+        }
+    }
+    false
 }
 
 /// Whether the command of `env` that the first of these arguments stands for has no use for the others.
@@ -126,61 +175,9 @@ fn is_subcommand_wrong(
     } else if lookups.is_after_env(1, b"run", word) {
         Ok(is_empty(text, words))
     } else if lookups.is_after_env(3, b"delete", word) {
-        let rest = without_force(lookups.alloc, text, words)?;
+        let rest = after_force(lookups.alloc, text, words)?;
         Ok(is_empty(text, rest))
     } else {
         Ok(lookups.is_after_env(3, b"exists", word) && !is_one(text, words))
-    }
-}
-
-/// Whether `setexpr` with these arguments has another operator than there are, and its value is no form of it.
-pub(crate) fn is_operated_wrong(
-    alloc: Global,
-    text: &Text,
-    words: &[Word],
-) -> Result<bool, AllocError>
-    ensures { IfOk result (λ wrong. wrong ≡ is_operated_wrong (words_in text.now words.now)) }
-{
-    match words {
-        [_name, value, rest @ ..] => is_behind_wrong(alloc, text, *value, rest),
-        _ => Ok(false),
-    }
-}
-
-/// The same for its value and what is behind that.
-fn is_behind_wrong(
-    alloc: Global,
-    text: &Text,
-    value: Word,
-    rest: &[Word],
-) -> Result<bool, AllocError>
-    ensures { IfOk result (λ wrong. wrong
-        ≡ (not (is_text_form (literal_of (word_atoms text.now value))) && begin_wrong (words_in text.now rest.now))) }
-{
-    let value = literal(alloc, text, value)?;
-    let wrong = begin_wrong(alloc, text, rest)?;
-    Ok(!is_text_form(&value) && wrong)
-}
-
-/// Whether the first of these words is no operator of `setexpr`.
-fn begin_wrong(alloc: Global, text: &Text, words: &[Word]) -> Result<bool, AllocError>
-    ensures { IfOk result (λ wrong. wrong ≡ begin_wrong (words_in text.now words.now)) }
-{
-    if words.is_empty() {
-        return Ok(false);
-    }
-    let operator = literal(alloc, text, words[0])?;
-    Ok(is_no_operator(&operator))
-}
-
-/// The operators of `setexpr`.
-const OPERATORS: [&[u8]; 8] = [b"+", b"-", b"*", b"/", b"%", b"&", b"|", b"^"];
-
-fn is_no_operator(word: &Option<Vec<u8>>) -> bool
-    ensures { result ≡ is_no_operator (option_map (λ v. v.items) word.now) }
-{
-    match word {
-        Some(word) => !is_word_of(&OPERATORS, word),
-        None => false,
     }
 }

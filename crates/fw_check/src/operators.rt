@@ -2,7 +2,7 @@
 ghost use Rattle.std.specs.Prelude.{◌≡◌, ℕ, ◌==◌, ◌&&◌, not, fold, length, IfOk, None, option_map};
 ghost use Rattle.std.specs.List.{list_all};
 ghost use Rattle.fw_check.specs.Expecting.{expected_view, suspect_view};
-ghost use Rattle.fw_check.specs.Findings.{after_field};
+ghost use Rattle.fw_check.specs.CommandFindings.{after_field};
 ghost use Rattle.fw_check.specs.Operators.{ATerm, AfterValue, Joint, Operator, Unclear, after_board_term, after_joined, after_operand, after_strict_term, after_term, after_word, begins_option, compared_or, ends_at, is_broken, is_sign, looks_like_operator, or_first, or_unclear, suspect, wrong_in};
 
 use crate::literals::{is_word_of, literal};

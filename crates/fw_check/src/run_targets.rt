@@ -2,7 +2,7 @@
 ghost use Rattle.std.specs.Prelude.{◌≡◌, [], if◌then◌else◌, IfOk, OnOk, option_map};
 ghost use Rattle.std.specs.List.{flat_map};
 ghost use Rattle.hush_words.specs.Parts.{word_atoms};
-ghost use Rattle.fw_check.specs.Findings.{argument_findings, begun_findings, constant_findings, field_in_substitutions, named_findings, target_findings};
+ghost use Rattle.fw_check.specs.CommandFindings.{argument_findings, begun_findings, constant_findings, field_in_substitutions, named_findings, target_findings};
 ghost use Rattle.fw_check.specs.Found.{found_more};
 ghost use Rattle.fw_check.specs.Looking.{front_view, known_in};
 

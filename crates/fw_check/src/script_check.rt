@@ -8,7 +8,8 @@ ghost use Rattle.fw_engines.specs.declared.tool_end.StreamFault.TheVariants as s
 ghost use Rattle.fw_engines.specs.Tool.{Prints};
 ghost use Rattle.finding_kinds.specs.declared.kinds.FindingKind.TheVariants as finding;
 ghost use Rattle.fw_check.specs.Checking.{LacksMemory, PrintsReport, errors_start, is_failed, output_end};
-ghost use Rattle.fw_check.specs.Findings.{fault_sentence, found_at, report_end};
+ghost use Rattle.fw_check.specs.ReportLines.{found_at, report_end};
+ghost use Rattle.fw_check.specs.Findings.{fault_sentence};
 ghost use Rattle.fw_check.specs.Found.{found_more};
 ghost use Rattle.fw_check.specs.Looking.{known_in, rules_in};
 ghost use Rattle.fw_check.specs.Origins.{origin_view};

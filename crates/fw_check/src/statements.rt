@@ -3,7 +3,8 @@ ghost use Rattle.std.specs.Prelude.{◌≡◌, ◌++◌, [], if◌then◌else◌
 ghost use Rattle.std.specs.List.{flat_map};
 ghost use Rattle.hush_words.specs.Parts.{word_atoms};
 ghost use Rattle.fw_check.specs.Expecting.{suspect_view};
-ghost use Rattle.fw_check.specs.Findings.{arguments_foreign, assigned_findings, assignment_findings, call_findings, hidden_findings, is_free, item_findings, list_findings, operator_end, operator_findings, refused_end, use_findings, written_end, wrong_findings};
+ghost use Rattle.fw_check.specs.CommandFindings.{arguments_foreign, is_free, operator_end, operator_findings, wrong_findings};
+ghost use Rattle.fw_check.specs.Findings.{assigned_findings, assignment_findings, call_findings, hidden_findings, item_findings, list_findings, refused_end, use_findings, written_end};
 ghost use Rattle.fw_check.specs.Found.{found_more};
 ghost use Rattle.fw_check.specs.Literals.{literal_of};
 ghost use Rattle.fw_check.specs.Looking.{known_in, rules_in};

@@ -13,7 +13,7 @@ use Rattle.fw_check.specs.Checking.{PrintsReport, is_failed, texts_of, with_whol
 use Rattle.fw_check.specs.EntryPlaces.{EnvironmentText}
 use Rattle.fw_check.specs.Called.{Given, given_with}
 use Rattle.fw_check.specs.FileChecks.{Checks, ChecksFiles, FileScript, is_alone}
-use Rattle.fw_check.specs.Findings.{Report}
+use Rattle.fw_check.specs.ReportLines.{Report}
 use Rattle.fw_engines.specs.Streams.{AppendsPart, Writers}
 use Rattle.fw_engines.specs.Tool.{Prints, PrintsText, Texts, Writes, WritesPart}
 use Rattle.fw_engines.specs.declared.tool_end.StreamFault.{StreamFault}

@@ -1,6 +1,6 @@
 use Rattle.std.proofs.Common.{[], ◌∷◌, ap, ◌∙◌, sym}
 use Rattle.fw_check.specs.Commands.{command_sentence, kind_of}
-use Rattle.fw_check.specs.Findings.{found_at}
+use Rattle.fw_check.specs.ReportLines.{found_at}
 use Rattle.fw_check.specs.Found.{found_more}
 use Rattle.fw_check.proofs.FoundLemmas.{ok-then}
 use Rattle.fw_check.proofs.command_names.add_command.Goals as goal

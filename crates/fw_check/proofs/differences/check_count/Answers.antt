@@ -1,6 +1,7 @@
 use Rattle.std.proofs.Common.{[], ◌∷◌, ap, sym, ◌∙◌}
 use Rattle.finding_kinds.specs.declared.kinds.FindingKind.TheVariants as kind
-use Rattle.fw_check.specs.Findings.{found_at, many_sentence}
+use Rattle.fw_check.specs.ReportLines.{found_at}
+use Rattle.fw_check.specs.CommandFindings.{many_sentence}
 use Rattle.fw_check.specs.Found.{found_more}
 use Rattle.fw_check.proofs.FoundLemmas.{ok-then}
 use Rattle.fw_check.proofs.ManyLemmas.{many-at}

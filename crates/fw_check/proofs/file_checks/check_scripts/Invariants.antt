@@ -1,6 +1,6 @@
 use Rattle.std.proofs.Common.{drop}
 use Rattle.fw_check.specs.FileChecks.{ReportsFiles, scripts_view}
-use Rattle.fw_check.specs.Findings.{Report}
+use Rattle.fw_check.specs.ReportLines.{Report}
 use Rattle.fw_check.specs.Looking.{known_in, rules_in}
 use Rattle.fw_check.proofs.file_checks.check_scripts.Given as goal
 

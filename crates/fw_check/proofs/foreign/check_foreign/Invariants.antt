@@ -1,6 +1,6 @@
 use Rattle.std.proofs.Common.{◌≡◌, drop}
 use Rattle.std.specs.List.{flat_map}
-use Rattle.fw_check.specs.Findings.{foreign_findings}
+use Rattle.fw_check.specs.CommandFindings.{foreign_findings}
 use Rattle.fw_check.specs.Found.{found_more}
 use Rattle.fw_check.proofs.foreign.check_foreign.Given as goal
 

@@ -1,7 +1,7 @@
 use Rattle.std.proofs.Common.{◌≡◌, drop}
 use Rattle.std.specs.Prelude.{fold}
 use Rattle.fw_check.specs.Expecting.{expected_view}
-use Rattle.fw_check.specs.Findings.{after_field}
+use Rattle.fw_check.specs.CommandFindings.{after_field}
 use Rattle.fw_check.specs.Operators.{ATerm}
 use Rattle.fw_check.proofs.operators.tested.Given as goal
 

@@ -1,6 +1,6 @@
 use Rattle.std.proofs.Common.{◌≡◌, drop}
 use Rattle.std.specs.List.{flat_map}
-use Rattle.fw_check.specs.Findings.{argument_findings}
+use Rattle.fw_check.specs.CommandFindings.{argument_findings}
 use Rattle.fw_check.specs.Found.{found_more}
 use Rattle.fw_check.specs.Looking.{known_in}
 use Rattle.fw_check.proofs.run_targets.check_targets.Given as goal

@@ -3,7 +3,8 @@ use Rattle.std.specs.Prelude.{option_map}
 use Rattle.fw_check.specs.Expecting.{suspect_view}
 use Rattle.fw_check.specs.declared.operators.Suspect.{Suspect}
 use Rattle.finding_kinds.specs.declared.kinds.FindingKind.TheVariants as kind
-use Rattle.fw_check.specs.Findings.{found_at, wrong_findings}
+use Rattle.fw_check.specs.ReportLines.{found_at}
+use Rattle.fw_check.specs.CommandFindings.{wrong_findings}
 use Rattle.fw_check.specs.Found.{found_more}
 use Rattle.fw_check.proofs.FoundLemmas.{ok-then}
 use Rattle.fw_check.proofs.statements.check_wrong.Goals as goal

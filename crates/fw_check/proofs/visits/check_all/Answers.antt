@@ -6,7 +6,7 @@ use Rattle.fw_check.specs.Called.{Given}
 use Rattle.fw_check.specs.Checking.{AreAsked, AreVisited, Reports, first_report, follow_texts, known_after}
 use Rattle.fw_check.specs.EntryPlaces.{EnvironmentText, text_view}
 use Rattle.fw_check.specs.FileChecks.{ComesTo, FileScript, ReportsFiles, follow_first, is_alone, script_texts, scripts_view}
-use Rattle.fw_check.specs.Findings.{Report}
+use Rattle.fw_check.specs.ReportLines.{Report}
 use Rattle.fw_check.specs.Knowing.{Known}
 use Rattle.fw_check.specs.Following.{Followed, begin_all, begin_with, is_among}
 use Rattle.fw_check.specs.Looking.{rules_view}

@@ -2,7 +2,7 @@ use Rattle.std.proofs.Common.{drop, map}
 use Rattle.std.specs.Prelude.{option_map}
 use Rattle.fw_check.specs.Checking.{Reports}
 use Rattle.fw_check.specs.EntryPlaces.{text_view}
-use Rattle.fw_check.specs.Findings.{Report}
+use Rattle.fw_check.specs.ReportLines.{Report}
 use Rattle.fw_check.specs.Following.{is_among}
 use Rattle.fw_check.specs.Looking.{known_in, rules_in}
 use Rattle.fw_check.proofs.visits.report_all.Given as goal

@@ -1,6 +1,7 @@
 use Rattle.std.proofs.Common.{◌≡◌, ℕ, List, [], ◌∷◌, ◌++◌, ap, sym, subst, append-nil, ◌∙◌}
 use Rattle.memchr.specs.Find.{IsFirstByte, is_byte}
-use Rattle.fw_check.specs.Findings.{first_findings, found_at}
+use Rattle.fw_check.specs.ReportLines.{found_at}
+use Rattle.fw_check.specs.Findings.{first_findings}
 use Rattle.fw_check.specs.Found.{Found, found_more}
 use Rattle.fw_check.proofs.FoundLemmas.{first-found, first-none, found-none, ok-then}
 use Rattle.fw_check.proofs.findings.Findings.add_first.Goals as goal

@@ -2,7 +2,7 @@ use Rattle.std.proofs.Common.{◌≡◌, drop, map}
 use Rattle.std.specs.List.{list_any}
 use Rattle.std.specs.Prelude.{option_map}
 use Rattle.fw_check.specs.Called.{is_after_env}
-use Rattle.fw_check.proofs.misuse.stands_for_one.Given as goal
+use Rattle.fw_check.proofs.operands.stands_for_one.Given as goal
 
 abbrev pub invariant-loop-name : goal.invariant-loop-name
 invariant-loop-name l =

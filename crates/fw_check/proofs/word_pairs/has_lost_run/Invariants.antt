@@ -3,7 +3,7 @@ use Rattle.hush_syntax.specs.Trees.{words_in}
 use Rattle.std.specs.Prelude.{None, option_map}
 use Rattle.fw_check.specs.Misuse.{has_lost_run}
 use Rattle.fw_check.specs.Looking.{known_in}
-use Rattle.fw_check.proofs.misuse.has_lost_run.Given as goal
+use Rattle.fw_check.proofs.word_pairs.has_lost_run.Given as goal
 
 abbrev pub invariant-loop-word : goal.invariant-loop-word
 invariant-loop-word l =

@@ -2,7 +2,7 @@ use Rattle.std.proofs.Common.{◌≡◌, drop}
 use Rattle.hush_syntax.specs.Trees.{words_in}
 use Rattle.std.specs.Prelude.{None, option_map}
 use Rattle.fw_check.specs.Misuse.{has_odd}
-use Rattle.fw_check.proofs.misuse.has_odd.Given as goal
+use Rattle.fw_check.proofs.word_pairs.has_odd.Given as goal
 
 abbrev pub invariant-loop-word : goal.invariant-loop-word
 invariant-loop-word l =
