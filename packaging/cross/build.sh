@@ -27,9 +27,25 @@ end_cross() {
     end_build || true
 }
 
-# build_cross: makes $cross_program, in one piece with the C library and with glue.c, if it isn't there and as new as the program.
-# Nothing is proved anew but the last crate: in a folder of its own the toolchain finds, by the checksums of all that their proofs
-# read, the libraries of which the program was made. (One that keeps nothing for later runs proves them once more.)
+# has_libraries: whether the repository's crates have the libraries that its gate proved of these sources. (Those that other commands of
+# the toolchain make have a stamp beside them.)
+has_libraries() {
+    local crate folder
+    for crate in "${crates[@]}"; do
+        folder=$top/crates/$crate/out/rlib
+        [ "$crate" = fwenv ] || { [ ! -e "$folder/stamp" ] && is_current "$folder/$crate.rlib"; } || return 1
+    done
+}
+
+# prove_and_compile FOLDER: copies the crates to that folder, and compiles the program over what is proved there. The toolchain finds, by
+# the checksums of all that their proofs read, the libraries of which the program was made. (One that keeps nothing for later runs proves
+# them once more.)
+prove_and_compile() {
+    copy_crates "$1" && prove "$1" && compile_cross "$1"
+}
+
+# build_cross: makes $cross_program, in one piece with the C library and with glue.c, if it isn't there and as new as the program. Behind
+# the gate nothing is proved anew but the last crate.
 build_cross() {
     local lock room prover='' status=1 log=$top/crates/fwenv/out/cross.log glue=$top/packaging/cross/glue.c
     # two at once would do the same twice
@@ -39,7 +55,7 @@ build_cross() {
     room=$(mktemp -d "${TMPDIR:-/var/tmp}/fwenv-cross.XXXXXX") || return 1
     trap 'end_cross; exit 130' INT TERM HUP
     crates_of_program
-    copy_crates "$room" && prove "$room" && compile_cross "$room" &&
+    { has_libraries && compile_cross "$top" || prove_and_compile "$room"; } &&
         "$cross-gcc" -O2 -Wall -static -Wl,--wrap=main -o "$cross_program.$$" "$cross_program.o.$$" "$glue" 2>>"$log" &&
         mv "$cross_program.o.$$" "$cross_program.o" && mv "$cross_program.$$" "$cross_program" && status=0
     trap - INT TERM HUP
