@@ -224,10 +224,13 @@ list_findings known text words =
     flat_map (cut_findings text) words ++ flat_map (reserved_findings text) words ++ flat_map (foreign_findings text) words
     ++ flat_map (word_findings known text) words ++ flat_map (reread_findings known false text) words
 
+abbrev pub binding_findings : Option Known → Given → Written → (name : Word) → List Word → List Finding
+binding_findings known given text name words =
+    assigned_findings given.shell known name.start (literal_of (word_atoms text name)) ++ list_findings known text words
+
 abbrev pub item_findings : Option Known → Given → Written → Item → List Finding
 item_findings known given text (item.Call s words) = begun_by text s words.now ++ call_findings known given text words.now
 item_findings known given text (item.Assignment s name value) =
     setting_findings s name.start (shows_in text value) ++ assignment_findings known given text name value
 item_findings known given text (item.Binding s name words) =
-    setting_findings s name.start (list_any (shows_in text) words.now)
-    ++ assigned_findings given.shell known name.start (literal_of (word_atoms text name)) ++ list_findings known text words.now
+    setting_findings s name.start (list_any (shows_in text) words.now) ++ binding_findings known given text name words.now

@@ -9,7 +9,7 @@ use Rattle.fw_check.specs.Called.{is_after_env}
 use Rattle.fw_check.specs.Foreign.{plain_of}
 use Rattle.fw_check.specs.Knowing.{Known, is_defined}
 use Rattle.fw_check.specs.Literals.{Front, front_of, is_called, is_word_of, literal_of}
-use Rattle.fw_check.specs.Naming.{is_calculation, is_exit, is_run, is_test}
+use Rattle.fw_check.specs.Naming.{is_calculation, is_exit, is_run, is_test, without_force}
 use Rattle.fw_check.specs.declared.misuse.Misuse.{Misuse}
 use Rattle.fw_check.specs.declared.misuse.Misuse.TheVariants as misuse
 
@@ -29,11 +29,6 @@ is_nothing front = front.whole && length front.bytes == 0
 abbrev pub is_name_wrong : List (List Atom) → Bool
 is_name_wrong [] = true
 is_name_wrong (word ∷ words) = list_any ends_name (front_of word).bytes || is_nothing (front_of word) || begin_with (codes "=") words
-
--- the words behind an option, if it is there
-abbrev pub without_force : List (List Atom) → List (List Atom)
-without_force [] = []
-without_force (word ∷ words) = if is_called (codes "-f") (literal_of word) then words else word ∷ words
 
 -- what `setenv` has no use for
 abbrev pub is_set_wrong : List (List Atom) → Bool

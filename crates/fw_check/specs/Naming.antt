@@ -90,10 +90,14 @@ abbrev pub first_name : List (List Atom) → List (List ℕ)
 first_name [] = []
 first_name (word ∷ words) = option_to_list (literal_of word)
 
--- by `setenv`, after `-f` if that is there
+-- the words behind `-f`, if that is there
+abbrev pub without_force : List (List Atom) → List (List Atom)
+without_force [] = []
+without_force (word ∷ words) = if is_called (codes "-f") (literal_of word) then words else word ∷ words
+
+-- by `setenv`
 abbrev pub set_by : List (List Atom) → List (List ℕ)
-set_by [] = []
-set_by (word ∷ words) = if is_called (codes "-f") (literal_of word) then first_name words else first_name (word ∷ words)
+set_by words = first_name (without_force words)
 
 -- by `env`, which sets as `setenv` does, or asks whether a variable is there
 abbrev pub foreseen_by_env : Shell → List (List Atom) → List (List ℕ)
@@ -134,8 +138,7 @@ first_of_several (word ∷ []) = []
 first_of_several (word ∷ value ∷ words) = option_to_list (literal_of word)
 
 abbrev pub written_by_set : List (List Atom) → List (List ℕ)
-written_by_set [] = []
-written_by_set (word ∷ words) = if is_called (codes "-f") (literal_of word) then first_of_several words else first_of_several (word ∷ words)
+written_by_set words = first_of_several (without_force words)
 
 abbrev pub written_by_env : Shell → List (List Atom) → List (List ℕ)
 written_by_env shell [] = []

@@ -52,6 +52,7 @@ fn field_len(bytes: &[u8]) -> usize
     bytes.iter().take_while(|b| is_in_field(**b)).count()
 }
 
+/// Whether a byte belongs to a field: it is no blank.
 pub(crate) fn is_in_field(b: u8) -> bool
     ensures { result ≡ is_in_field b }
 {

@@ -1,9 +1,7 @@
 //! A `setenv` of an empty value, with which a board keeps the variable.
 ghost use Rattle.std.specs.Prelude.{◌≡◌, IfOk, OnOk, option_map};
-ghost use Rattle.hush_words.specs.Parts.{word_atoms};
 ghost use Rattle.fw_check.specs.CommandFindings.{after_force, after_set, empty_findings, only_value, set_words, value_findings};
 ghost use Rattle.fw_check.specs.Found.{found_more};
-ghost use Rattle.fw_check.specs.Literals.{literal_of};
 
 use crate::findings::Findings;
 use crate::literals::{is_called, literal};

@@ -1,5 +1,5 @@
 //! The line of a script in which something is found, and a caret below it.
-ghost use Rattle.std.specs.Prelude.{◌≡◌, ◌≤◌, ◌+◌, ◌++◌, OnOk, length, map, not, option_map, replicate};
+ghost use Rattle.std.specs.Prelude.{◌≡◌, ◌≤◌, ◌++◌, OnOk, length, map, not, option_map, replicate};
 ghost use Rattle.fw_check.specs.Excerpts.{dots, ends_line, excerpt_at, excerpt_of, is_cut_before, shown_byte, shown_from, shown_line, shown_to, caret_line, spot_view};
 
 use std::alloc::AllocError;

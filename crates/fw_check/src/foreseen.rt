@@ -9,6 +9,7 @@ ghost use Rattle.fw_check.specs.Naming.{first_name, foreseen_as, foreseen_by_env
 use crate::literals::{is_called, is_word_of, literal};
 use crate::lookups::Lookups;
 use crate::name_set::NameSet;
+use crate::operands::after_force;
 use crate::substitutions::gather_substitutions;
 use hush_syntax::{Text, Word};
 use std::alloc::{AllocError, Global};
@@ -105,14 +106,8 @@ fn foresee_set(
     ensures { OnOk result (set_of foreseen.new ≡ with_all (set_of foreseen.old)
         (set_by (words_in text.now words.now))) }
 {
-    if words.is_empty() {
-        return Ok(());
-    }
-    let first = literal(alloc, text, words[0])?;
-    if is_called(&first, b"-f") {
-        return foresee_first(alloc, text, &words[1..], foreseen);
-    }
-    foresee_first(alloc, text, words, foreseen)
+    let rest = after_force(alloc, text, words)?;
+    foresee_first(alloc, text, rest, foreseen)
 }
 
 /// Adds the first of these words, if there is one and it is without a substitution.

@@ -156,6 +156,7 @@ fn is_no_builtin(called: &Option<Vec<u8>>) -> bool
     }
 }
 
+/// Whether there are no words.
 pub(crate) fn is_empty(text: &Text, words: &[Word]) -> bool
     ensures { result ≡ is_empty (words_in text.now words.now) }
 {

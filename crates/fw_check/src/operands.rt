@@ -5,7 +5,8 @@ ghost use Rattle.hush_syntax.specs.Trees.{words_in};
 ghost use Rattle.fw_check.specs.CommandFindings.{after_force};
 ghost use Rattle.fw_check.specs.Called.{is_after_env};
 ghost use Rattle.fw_check.specs.Looking.{front_view};
-ghost use Rattle.fw_check.specs.Misuse.{is_env_wrong, is_no_subcommand, begin_with, ends_name, is_name_wrong, is_nothing, is_operand_wrong, is_set_wrong, is_subcommand_wrong, without_force};
+ghost use Rattle.fw_check.specs.Misuse.{is_env_wrong, is_no_subcommand, begin_with, ends_name, is_name_wrong, is_nothing, is_operand_wrong, is_set_wrong, is_subcommand_wrong};
+ghost use Rattle.fw_check.specs.Naming.{without_force};
 
 use crate::literals::{Front, front_of, is_called, literal};
 use crate::lookups::Lookups;

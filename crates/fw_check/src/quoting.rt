@@ -7,15 +7,15 @@ use crate::findings::Findings;
 use finding_kinds::FindingKind;
 use std::alloc::AllocError;
 
-/// What a byte of a script is in.
+/// What a byte of a script is in. `loose`: only blanks, comments and joined lines are between an operator and it.
 #[derive(Clone, Copy, Debug, PartialEq, Eq)]
 pub(crate) enum Inside {
-    /// What is between words; whether only blanks, comments and joined lines are between an operator and it.
-    Gap(bool),
+    /// What is between words.
+    Gap { loose: bool },
     /// The same, behind a backslash.
-    GapEscape(bool),
-    /// A comment; whether only these are between an operator and it.
-    Comment(bool),
+    GapEscape { loose: bool },
+    /// A comment.
+    Comment { loose: bool },
     /// A word, outside of quotes.
     Plain,
     /// The same, behind a backslash.
@@ -53,7 +53,7 @@ pub(crate) enum Odd {
 pub(crate) fn check_quoting(text: &[u8], findings: &mut Findings<'_, '_>) -> Result<(), AllocError>
     ensures { OnOk result (findings.new ≡ found_more findings.old (quoting_findings text.now)) }
 {
-    let mut inside = Inside::Gap(false);
+    let mut inside = Inside::Gap { loose: false };
     let mut count = 0;
     while count < text.len() {
         let byte = text[count];
@@ -84,19 +84,19 @@ impl Inside {
         ensures { result ≡ after self byte }
     {
         match self {
-            Inside::Gap(loose) => after_gap(loose, byte),
-            Inside::GapEscape(loose) => {
+            Inside::Gap { loose } => after_gap(loose, byte),
+            Inside::GapEscape { loose } => {
                 if byte == b'\n' {
-                    Inside::Gap(loose)
+                    Inside::Gap { loose }
                 } else {
                     Inside::Plain
                 }
             }
-            Inside::Comment(loose) => {
+            Inside::Comment { loose } => {
                 if byte == b'\n' {
-                    Inside::Gap(false)
+                    Inside::Gap { loose: false }
                 } else {
-                    Inside::Comment(loose)
+                    Inside::Comment { loose }
                 }
             }
             Inside::Plain => after_plain(byte),
@@ -120,9 +120,9 @@ impl Inside {
         ensures { result ≡ odd_at self byte }
     {
         match self {
-            Inside::Gap(loose) => odd_if(loose && byte == b'\n', Odd::Loose),
-            Inside::GapEscape(_) => odd_if(byte == b'\n', Odd::Joined),
-            Inside::Comment(loose) => odd_if(loose && byte == b'\n', Odd::Loose),
+            Inside::Gap { loose } => odd_if(loose && byte == b'\n', Odd::Loose),
+            Inside::GapEscape { .. } => odd_if(byte == b'\n', Odd::Joined),
+            Inside::Comment { loose } => odd_if(loose && byte == b'\n', Odd::Loose),
             Inside::Plain => None,
             Inside::Escape => odd_if(byte == b'\n', Odd::Joined),
             Inside::Dollar => odd_if(byte == b'_', Odd::Underscored),
@@ -213,11 +213,11 @@ fn after_gap(loose: bool, byte: u8) -> Inside
     ensures { result ≡ after_gap loose byte }
 {
     if byte == b'\\' {
-        Inside::GapEscape(loose)
+        Inside::GapEscape { loose }
     } else if byte == b'#' {
-        Inside::Comment(loose)
+        Inside::Comment { loose }
     } else if is_space(byte) {
-        Inside::Gap(loose)
+        Inside::Gap { loose }
     } else {
         after_plain(byte)
     }
@@ -236,9 +236,9 @@ fn after_plain(byte: u8) -> Inside
     } else if byte == b'$' {
         Inside::Dollar
     } else if is_space(byte) || byte == b'\n' || byte == b';' {
-        Inside::Gap(false)
+        Inside::Gap { loose: false }
     } else if byte == b'&' || byte == b'|' {
-        Inside::Gap(true)
+        Inside::Gap { loose: true }
     } else {
         Inside::Plain
     }

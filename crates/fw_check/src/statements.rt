@@ -1,10 +1,10 @@
 //! What is found in the statements of a script.
-ghost use Rattle.std.specs.Prelude.{◌≡◌, ◌++◌, [], if◌then◌else◌, OnOk, option_map};
-ghost use Rattle.std.specs.List.{flat_map};
+ghost use Rattle.std.specs.Prelude.{◌≡◌, ◌++◌, OnOk, option_map};
+ghost use Rattle.std.specs.List.{flat_map, list_any};
 ghost use Rattle.hush_words.specs.Parts.{word_atoms};
 ghost use Rattle.fw_check.specs.Expecting.{suspect_view};
 ghost use Rattle.fw_check.specs.CommandFindings.{arguments_foreign, is_free, operator_end, operator_findings, wrong_findings};
-ghost use Rattle.fw_check.specs.Findings.{assigned_findings, assignment_findings, call_findings, hidden_findings, item_findings, list_findings, refused_end, use_findings, written_end};
+ghost use Rattle.fw_check.specs.Findings.{assigned_findings, assignment_findings, binding_findings, call_findings, hidden_findings, item_findings, list_findings, refused_end, setting_findings, shows_in, use_findings, written_end};
 ghost use Rattle.fw_check.specs.Found.{found_more};
 ghost use Rattle.fw_check.specs.Literals.{literal_of};
 ghost use Rattle.fw_check.specs.Looking.{known_in, rules_in};
@@ -21,6 +21,7 @@ use crate::misuse::{Misuse, check_misuse, misuse_of};
 use crate::operators::{Suspect, tested};
 use crate::reread::{check_value, check_values};
 use crate::run_targets::check_targets;
+use crate::settings::Setting;
 use crate::statuses::{check_begun, check_setting, shows_any, shows_in};
 use crate::undefined_names::{check_word, check_words};
 use finding_kinds::FindingKind;
@@ -63,29 +64,12 @@ fn check_item(
             setting,
             name,
             value,
-        } => {
-            check_setting(
-                setting,
-                name.start as usize,
-                shows_in(text, value),
-                findings,
-            )?;
-            check_assignment(lookups, text, name, value, findings)
-        }
+        } => check_assignment(lookups, text, setting, name, value, findings),
         Item::Binding {
             setting,
             name,
             words,
-        } => {
-            check_setting(
-                setting,
-                name.start as usize,
-                shows_any(text, words),
-                findings,
-            )?;
-            check_assigned(lookups, text, name, findings)?;
-            check_list(lookups, text, words, findings)
-        }
+        } => check_binding(lookups, text, setting, name, words, findings),
     }
 }
 
@@ -93,17 +77,38 @@ fn check_item(
 fn check_assignment(
     lookups: &Lookups<'_>,
     text: &Text,
+    setting: Setting,
     name: Word,
     value: Word,
     findings: &mut Findings<'_, '_>,
 ) -> Result<(), AllocError>
-    ensures { OnOk result (findings.new ≡ found_more findings.old
-        (assignment_findings (known_in lookups.now) (rules_in lookups.now) text.now name value)) }
+    ensures { OnOk result (findings.new ≡ found_more findings.old (setting_findings setting name.start (shows_in text.now value)
+        ++ assignment_findings (known_in lookups.now) (rules_in lookups.now) text.now name value)) }
 {
+    let count = name.start as usize;
+    check_setting(setting, count, shows_in(text, value), findings)?;
     check_assigned(lookups, text, name, findings)?;
-    check_unset(lookups, text, name.start as usize, value, findings)?;
+    check_unset(lookups, text, count, value, findings)?;
     check_word(lookups, text, value, findings)?;
     check_value(lookups, false, text, value, findings)
+}
+
+/// The same for the head of a `for`.
+fn check_binding(
+    lookups: &Lookups<'_>,
+    text: &Text,
+    setting: Setting,
+    name: Word,
+    words: &[Word],
+    findings: &mut Findings<'_, '_>,
+) -> Result<(), AllocError>
+    ensures { OnOk result (findings.new ≡ found_more findings.old (setting_findings setting name.start (list_any (shows_in text.now) words.now)
+        ++ binding_findings (known_in lookups.now) (rules_in lookups.now) text.now name words.now)) }
+{
+    let count = name.start as usize;
+    check_setting(setting, count, shows_any(text, words), findings)?;
+    check_assigned(lookups, text, name, findings)?;
+    check_list(lookups, text, words, findings)
 }
 
 /// The same for the list of a `for`.

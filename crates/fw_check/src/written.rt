@@ -10,6 +10,7 @@ use crate::foreseen::is_calculation;
 use crate::literals::{is_called, literal};
 use crate::lookups::Lookups;
 use crate::name_set::NameSet;
+use crate::operands::after_force;
 use hush_syntax::{Text, Word};
 use std::alloc::{AllocError, Global};
 
@@ -65,14 +66,8 @@ fn write_set(
     ensures { OnOk result (set_of written.new ≡ with_all (set_of written.old)
         (written_by_set (words_in text.now words.now))) }
 {
-    if words.is_empty() {
-        return Ok(());
-    }
-    let first = literal(alloc, text, words[0])?;
-    if is_called(&first, b"-f") {
-        return write_first(alloc, text, &words[1..], written);
-    }
-    write_first(alloc, text, words, written)
+    let rest = after_force(alloc, text, words)?;
+    write_first(alloc, text, rest, written)
 }
 
 /// Adds the first of these words, if there is a second and it is without a substitution.
