@@ -1,6 +1,9 @@
 """The commands of a script that compute: test and setexpr (docs/test-and-setexpr.md)."""
 
+import operator
 import re
+
+LARGEST = 2**63 - 1
 
 
 def integer_of(word):
@@ -16,12 +19,23 @@ def integer_of(word):
         number = decimal(found.group())
     else:
         number = 0
-    return sign * min(number, 2**63 - 1)
+    return sign * number
 
 
 def decimal(digits):
-    """A number of digits, of which no more are read than the largest number has."""
-    return int(digits) if len(digits) < 40 else 2**64
+    """The number of these digits, or in place of a very large one the remainder modulo 10 to the 64th, which is a multiple of 2 to the
+    64th, and that again."""
+    return int(digits) if len(digits) <= 64 else 10**64 + int(digits[-64:])
+
+
+def saturated(number):
+    """What the strict shell counts."""
+    return max(-LARGEST, min(LARGEST, number))
+
+
+def wrapped(number):
+    """What a board counts: 64 bits with a sign."""
+    return (number + 2**63) % 2**64 - 2**63
 
 
 def value_of(word):
@@ -38,18 +52,23 @@ def status_of_digits(word):
     return status if status <= 255 else None
 
 
-COMPARISONS = {
-    b"=": lambda s, t: s == t,
-    b"!=": lambda s, t: s != t,
-    b"<": lambda s, t: s < t,
-    b">": lambda s, t: s > t,
-    b"-eq": lambda s, t: integer_of(s) == integer_of(t),
-    b"-ne": lambda s, t: integer_of(s) != integer_of(t),
-    b"-lt": lambda s, t: integer_of(s) < integer_of(t),
-    b"-le": lambda s, t: integer_of(s) <= integer_of(t),
-    b"-gt": lambda s, t: integer_of(s) > integer_of(t),
-    b"-ge": lambda s, t: integer_of(s) >= integer_of(t),
+OF_TEXTS = {b"=": operator.eq, b"!=": operator.ne, b"<": operator.lt, b">": operator.gt}
+OF_NUMBERS = {
+    b"-eq": operator.eq,
+    b"-ne": operator.ne,
+    b"-lt": operator.lt,
+    b"-le": operator.le,
+    b"-gt": operator.gt,
+    b"-ge": operator.ge,
 }
+COMPARISONS = OF_TEXTS | OF_NUMBERS
+
+
+def holds(left, comparison, right, counted):
+    """Whether a comparison holds; `counted` says what a shell makes of a number."""
+    if comparison in OF_NUMBERS:
+        left, right = counted(integer_of(left)), counted(integer_of(right))
+    return COMPARISONS[comparison](left, right)
 
 
 def term(words):
@@ -65,7 +84,7 @@ def term(words):
         return value != negated, words[2:]
     if len(words) < 3 or words[1] not in COMPARISONS:
         return None
-    return COMPARISONS[words[1]](words[0], words[2]) != negated, words[3:]
+    return holds(*words[:3], saturated) != negated, words[3:]
 
 
 def test(words):
@@ -97,7 +116,7 @@ def value_read(words, there):
     """What the words of an operator are worth that is no `!` and no joint."""
     if words[0] in (b"-z", b"-n") and len(words) == 2:
         return (words[1] == b"") == (words[0] == b"-z")
-    return there(words[1:]) if len(words) == 4 else COMPARISONS[words[1]](words[0], words[2])
+    return there(words[1:]) if len(words) == 4 else holds(*words, wrapped)
 
 
 def board_test(words, there):

@@ -10,7 +10,7 @@ from collections import Counter
 from dataclasses import dataclass, field
 
 from model.board_file import Reply, lacks, names_of
-from model.calculations import COMPARISONS
+from model.calculations import COMPARISONS, OF_NUMBERS
 from model.grammar import RESERVED, parse
 from model.quoting import APOSTROPHE, BACKSLASH, JOINED, LOOSE, UNDERSCORED, quoting
 from model.script_run import SENTENCES, line_and_column
@@ -95,10 +95,9 @@ OF_ENV = {
     b"ask", b"callbacks", b"default", b"delete", b"edit", b"erase", b"exists", b"export", b"flags", b"grep", b"import", b"indirect", b"info",
     b"load", b"print", b"run", b"save", b"select", b"set",
 }  # fmt: skip
-# The forms of `setexpr` that work on texts, and the comparisons of numbers
+# The forms of `setexpr` that work on texts, and its operators
 TEXT_FORMS = (b"sub", b"gsub", b"fmt")
 CALCULATING = {b"+", b"-", b"*", b"/", b"%", b"&", b"|", b"^"}
-OF_NUMBERS = (b"-eq", b"-ne", b"-lt", b"-le", b"-gt", b"-ge")
 # The variables of a boot menu, and what comes before the script of an entry
 ENTRY_NAME, TITLE = re.compile(rb"bootmenu_[0-9]+"), re.compile(rb"[^=]*=?")
 # What begins a script and is no command; the first word of a value, and what is behind it; variables that are lists with a `;` between entries

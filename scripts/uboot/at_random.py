@@ -13,11 +13,11 @@ from model.grammar import RESERVED
 
 ROWS = Path(__file__).with_name("scripts.rows")
 PLAIN = re.compile(rb"[A-Za-z0-9_.,=<>!/@%^~()\[\]{}+:-]+")
-# Words of the rows that would be a class of their own, a number that not every board reads in the same way, or a prompt once printed
-NOT_PLAIN = re.compile(rb"\d{10,}|.*[{}]|.*=.*|-[anoez]|>.*")
+# Words of the rows that would be a class of their own, or a prompt once printed
+NOT_PLAIN = re.compile(rb".*[{}]|.*=.*|-[anoez]|>.*")
 OPERATORS = [b"=", b"!=", b"<", b">", b"-eq", b"-ne", b"-lt", b"-le", b"-gt", b"-ge"]
 JOINTS = [b"-a", b"-o", b"!", b"-n", b"-z"]
-NUMBERS = [b"0", b"1", b"2", b"010", b"0x1f", b"-5", b"ab", b"12ab"]
+NUMBERS = [b"0", b"1", b"2", b"010", b"0x1f", b"-5", b"ab", b"12ab", b"9223372036854775808", b"-0xffffffffffffffff"]
 HEXADECIMAL = [b"0", b"1", b"9", b"ff", b"0x1f", b"10", b"zz", b"-1"]
 CALCULATED = [b"+", b"-", b"*", b"^"]
 UNKNOWN = [b"nosuchcmd", b"help_me_please", b"[", b"{a}", b"break", b"Echo", b"echoo", b"%"]

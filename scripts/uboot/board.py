@@ -18,6 +18,8 @@ from pathlib import Path
 EMULATOR = "qemu-system-aarch64"
 # U-Boot of Debian's package u-boot-qemu, and that of a newer Debian (scripts/uboot/newer)
 FIRMWARES = [Path("/usr/lib/u-boot/qemu_arm64/u-boot.bin"), Path("/usr/local/lib/u-boot-newer/qemu_arm64/u-boot.bin")]
+# One of 32 bits, of the first package
+NARROW = Path("/usr/lib/u-boot/qemu_arm/u-boot.bin")
 # One that counts its boots (scripts/uboot/counting), in an environment of its own size
 COUNTING = Path("/usr/local/lib/u-boot-counting/u-boot.bin")
 COUNTED_SIZE = 0x1000
@@ -44,9 +46,9 @@ def firmwares():
     return found
 
 
-def counts_boots():
-    """Whether the one that counts is here and can be emulated."""
-    return COUNTING.exists() and shutil.which(EMULATOR) is not None
+def can_boot(firmware):
+    """Whether one is here and can be emulated."""
+    return firmware.exists() and shutil.which(EMULATOR) is not None
 
 
 class Silent(Exception):
@@ -176,7 +178,8 @@ class Board(Console):
         for file, size in ((self.flash, FLASH_SIZE), (self.memory, MEMORY_SIZE)):
             file.touch()
             os.truncate(file, size)
-        options = "-machine virt,memory-backend=memory -cpu cortex-a57 -display none -nic none -monitor none"
+        processor = "cortex-a15" if firmware == NARROW else "cortex-a57"
+        options = f"-machine virt,memory-backend=memory -cpu {processor} -display none -nic none -monitor none"
         console = "-chardev stdio,id=console,signal=off -serial chardev:console"
         memory = f"memory-backend-file,id=memory,size={MEMORY_SIZE},share=on,mem-path={self.memory}"
         drive = f"if=pflash,index=1,format=raw,file={self.flash}"

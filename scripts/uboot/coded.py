@@ -37,10 +37,9 @@ CODES = {
 # The classes that have none, by why
 WITHOUT = {
     "the same is done, and other words are printed": "absent-names env-delete environment-size flags-messages saving",
-    "a board's own configuration decides": "built-in-flags callbacks files-in-test flags-patterns flags-while-running long-flags options",
+    "a board's own configuration decides": "built-in-flags callbacks files-in-test flags-patterns flags-while-running large-numbers long-flags options",
     "rules of a board file answer it": "env-subcommands forms-of-setexpr",
     "it hangs on numbers that a run comes to": "delay-numbers division-by-zero nested-runs",
-    "no script of a board that ships has a number of `test` that is so large": "large-numbers",
     "it is of stored images and power-ons": "counts-without-room empty-name many-variables names-of-stored-variables refused-values unterminated",
 }
 UNSEEN = {name for names in WITHOUT.values() for name in names.split()}

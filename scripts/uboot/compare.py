@@ -7,7 +7,7 @@ and stored environments both ways.
     compare.py --classes              only the classes of docs/differences.md and those that the rows name
     compare.py --releases             which releases of U-Boot can be compared with
 
-U-Boot is that of Debian's package u-boot-qemu and, if `scripts/uboot/newer` was run, a newer one, and for power-ons that are counted
+U-Boot is that of Debian's package u-boot-qemu, also of 32 bits, and, if `scripts/uboot/newer` was run, a newer one, and for power-ons that are counted
 the one of `scripts/uboot/counting`; qemu-system-aarch64 has to be installed. A name ends with the release.
 """
 
@@ -21,7 +21,7 @@ from concurrent.futures import ThreadPoolExecutor
 from pathlib import Path
 
 from at_prompt import faults_of_random
-from board import COUNTED_SIZE, COUNTING, Silent, counts_boots, firmwares
+from board import COUNTED_SIZE, COUNTING, NARROW, Silent, can_boot, firmwares
 from cases import answers_of, cases, typed
 from coded import faults_of_codes
 from counted import check, end
@@ -133,6 +133,14 @@ def work_on_power_ons(pair):
         yield row, functools.partial(answers_to_power_ons, variables, pair.copy(row.place))
 
 
+def compare_narrow(rows, only, pair, pool):
+    """The rows in which a board of 32 bits differs."""
+    rows = [row for row in rows if only in row.name and any(each.release == pair.release for each in row.differences)]
+    found = pool.submit(with_default_environment, rows, pair)
+    for index, row in enumerate(rows):
+        take_row(row, pair.release, lambda: found.result()[index])
+
+
 def compare_counted(only, pair, pool):
     """The power-ons of a board that counts them."""
     work = [(row, pair.copy(row.place), variables) for row, variables in counted_rows() if only in row.name]
@@ -177,9 +185,10 @@ def take_random(found):
 
 def main(arguments):
     if "--releases" in arguments:
-        return print(*firmwares(), *["counting"] * counts_boots())
+        return print(*firmwares(), *["counting"] * can_boot(COUNTING))
     rows = [row for path in sorted(HERE.glob("*.rows")) for row in read_rows(path)]
     value_of = dict(zip(arguments, arguments[1:]))
+    only = value_of.get("--only", "")
     if "--random" not in arguments:
         compare_classes([*rows, MANY, *(row for row, _ in (*power_on_rows(), *counted_rows()))])
     if "--classes" not in arguments:
@@ -192,9 +201,11 @@ def main(arguments):
                     count = int(value_of["--random"])
                     take_random([pool.submit(faults) for faults in work_at_random(pair, os.getpid(), count, count // 2)])
                 else:
-                    compare(rows, value_of.get("--only", ""), pair, pool)
-            if counts_boots() and "--random" not in arguments:
-                compare_counted(value_of.get("--only", ""), Pair(arguments[0], "counting", COUNTING, Path(folder), COUNTED_SIZE), pool)
+                    compare(rows, only, pair, pool)
+            if can_boot(NARROW) and "--random" not in arguments:
+                compare_narrow(rows, only, Pair(arguments[0], "narrow", NARROW, Path(folder)), pool)
+            if can_boot(COUNTING) and "--random" not in arguments:
+                compare_counted(only, Pair(arguments[0], "counting", COUNTING, Path(folder), COUNTED_SIZE), pool)
     end()
 
 

@@ -9,8 +9,8 @@ A row is a few lines:
     ! CLASS ..     the classes of docs/differences.md in which the two differ; then come their answers, in the same line or below:
     < LINE         of the board
     > LINE         of the dry run
-    ! older CLASS ..   the same of a board with U-Boot before 2024 alone, or `newer` for one with a later release; the last that fits a
-                   board counts for it
+    ! older CLASS ..   the same of a board with U-Boot before 2024 alone, or `newer` for one with a later release, or `narrow` for one
+                   of 32 bits, on which only such rows are tried; the last that fits a board counts for it
 
 An answer is the text that is printed and then a line `[STATUS]`; or it is `[refused]` if the text isn't a script, so that nothing
 of it is run: how that is reported isn't compared. ` / ` is a newline, and `..` stands for any bytes. Without a `!` that fits both
@@ -26,7 +26,7 @@ import re
 from dataclasses import dataclass, field
 
 
-RELEASES = ("older", "newer")
+RELEASES = ("older", "newer", "narrow")
 
 
 @dataclass

@@ -1,7 +1,8 @@
 """Scripts at random in which `fwenv check` finds nothing by either shell: a board's prompt and both shells have to make the same of them.
 
 A script is lines for the prompt, as in at_random.py. Its texts are tame: no empty bodies, no `exit`, each name is either a variable of the
-environment or a local one, and `test` has its operands in quotes. Whatever differs in one of them needs a finding of its own.
+environment or a local one, `test` has its operands in quotes, and no number is large. Whatever differs in one of them needs a finding of
+its own.
 """
 
 import functools
@@ -11,9 +12,11 @@ import re
 from at_prompt import compared, in_dry_runs, on_boards
 from differential.harness.boards import text_of
 
-from at_random import HEXADECIMAL, NUMBERS, OPERATORS, TEXTS, BoardWriter  # (at_prompt finds the packages that it uses)
+from at_random import HEXADECIMAL, NUMBERS, OPERATORS, TEXTS, WORDS, BoardWriter  # (at_prompt finds the packages that it uses)
 
 VARIABLES, LOCALS = b"abvwn", b"ij"
+# Of larger numbers the strict shell takes the largest, and a board of 32 bits the remainder
+TAME = [word for word in WORDS if not re.search(rb"[0-9A-Fa-f]{8}", word)]
 SET = re.compile(rb"setenv (\w+) (?:'([^']*)'|([^;]*))(?:; |\Z)")
 
 
@@ -25,6 +28,9 @@ class TameWriter(BoardWriter):
 
     def call(self, name):
         return name
+
+    def literal(self):
+        return self.any(TAME)
 
     def variable(self):
         return self.named(self.any(VARIABLES))

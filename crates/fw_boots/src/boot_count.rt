@@ -1,6 +1,5 @@
 //! U-Boot's own count of boots, as commands between `preboot` and what follows it.
 ghost use Rattle.std.specs.Prelude.{◌≡◌, ◌%◌, IfOk};
-ghost use Rattle.text_parts.specs.Digits.{number};
 ghost use Rattle.hush_calc.specs.Numbers.{front_number, modulus};
 ghost use Rattle.hush_run.specs.Runs.{reason_of};
 ghost use Rattle.fw_boots.specs.PowerOns.{IsCounted, boot_number, command_of, count_left, counted_text, goes_back, is_beyond};
@@ -12,7 +11,7 @@ use envvars_core::{Refusal, Vars};
 use hush_run::Ending;
 use itoa::Buffer;
 use std::alloc::{AllocError, Global};
-use text_parts::{Base, behind_0x, digit_value, digits_in_front};
+use text_parts::{Base, behind_0x, digits_in_front, wrapped_number};
 
 /// The text of a board that counts, by what `preboot` left. `AllocError` if memory runs out, or did in `preboot`.
 pub(crate) fn text_after(
@@ -119,18 +118,7 @@ fn number_in(text: &[u8]) -> u64
 fn front_number(base: Base, text: &[u8]) -> u64
     ensures { result ≡ front_number base text.now % modulus }
 {
-    let radix = match base {
-        Base::Octal => 8,
-        Base::Decimal => 10,
-        Base::Hexadecimal => 16,
-    };
-    let mut value = 0u64;
-    for digit in digits_in_front(base, text) {
-        if let Some(counted) = digit_value(*digit) {
-            value = value.wrapping_mul(radix).wrapping_add(counted);
-        }
-    }
-    value
+    wrapped_number(base, digits_in_front(base, text))
 }
 
 /// The save of the count.

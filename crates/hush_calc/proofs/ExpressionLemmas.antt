@@ -7,6 +7,7 @@ use Rattle.hush_calc.specs.declared.comparison.Comparison.TheVariants.{Same, Dif
 use Rattle.hush_calc.specs.declared.comparison.Opening.TheVariants.{Word}
 use Rattle.hush_calc.specs.declared.comparison.Joint.{Joint}
 use Rattle.hush_calc.specs.declared.comparison.Joint.TheVariants.{And, Or}
+use Rattle.hush_calc.specs.declared.numbers.Counting.TheVariants.{Saturating}
 use Rattle.hush_calc.specs.Test.{spelling, comparison_of, holds, joint_of, joint_value, signed, from_term, from_operand, from_joint, expression_of}
 use Rattle.hush_calc.specs.Expressions.{Term, Expression, Filled, Empty, Compared, Plain, Negated, First, Joined, term_words, joint_word, words_of, term_value, value, IsTerm, IsExpression}
 use Rattle.hush_calc.proofs.TermLemmas.{term-cons}
@@ -38,7 +39,7 @@ term-read (Plain (Filled s)) f odd rest is = refl
 term-read (Plain (Empty s)) f odd rest is = refl
 term-read (Plain (Compared s c t)) f odd rest is =
     term-cons f odd (s ∷ spelling c ∷ t ∷ rest) s (spelling c ∷ t ∷ rest) Word refl (sym is)
-    ∙ ap (λ (o : Option Comparison). option_and_then (λ x. from_operand (λ u. f (signed odd (holds x s u))) (t ∷ rest)) o) (comparison-spelled c)
+    ∙ ap (λ (o : Option Comparison). option_and_then (λ x. from_operand (λ u. f (signed odd (holds Saturating x s u))) (t ∷ rest)) o) (comparison-spelled c)
 term-read (Negated t) f odd rest is =
     term-read t f (not odd) rest is ∙ ap (λ (b : Bool). from_joint (f b) rest) (signed-not odd (term_value t))
 

@@ -6,3 +6,4 @@ pub mod ExpressionLemmas
 pub mod WrittenLemmas
 pub mod Rows
 pub mod BoardLemmas
+pub mod NumberLemmas

@@ -1,7 +1,9 @@
 -- Worked examples of docs/test-and-setexpr.md, which the checker computes from the definitions.
 use Rattle.std.proofs.Common.{◌≡◌, ℕ, pos, negsuc, true, false, List, [], ◌∷◌, None, Some, Ok, Err, refl}
 use Rattle.std.specs.Prelude.{codes, map}
+use Rattle.std.specs.Int.{int_wrap}
 use Rattle.hush_calc.specs.declared.calculation.SetexprFault.TheVariants.{WrongUse, DivisionByZero}
+use Rattle.hush_calc.specs.declared.numbers.Counting.TheVariants.{Saturating, Wrapping}
 use Rattle.hush_calc.specs.Numbers.{integer_of, value_of}
 use Rattle.hush_calc.specs.Test.{expression_of}
 use Rattle.hush_calc.specs.Board.{board_test_of}
@@ -9,14 +11,32 @@ use Rattle.hush_calc.specs.Hexadecimal.{hexadecimal}
 use Rattle.hush_calc.specs.Setexpr.{Answer, setexpr_of}
 
 -- what is a number for `test`, and what follows it is ignored
-integers : map integer_of (codes "010" ∷ codes "08" ∷ codes "0x1F" ∷ codes "0Xg" ∷ codes "0x" ∷ codes "12abc" ∷ codes "-12" ∷ codes "--1" ∷ codes "+1" ∷ [] ∷ [])
+integers : map (integer_of Saturating) (codes "010" ∷ codes "08" ∷ codes "0x1F" ∷ codes "0Xg" ∷ codes "0x" ∷ codes "12abc" ∷ codes "-12" ∷ codes "--1" ∷ codes "+1" ∷ [] ∷ [])
     ≡ pos 8 ∷ pos 0 ∷ pos 31 ∷ pos 0 ∷ pos 0 ∷ pos 12 ∷ negsuc 11 ∷ pos 0 ∷ pos 0 ∷ pos 0 ∷ []
 integers = refl
 
 -- a large magnitude is taken as the largest, on either side of 0
-large_integers : map integer_of (codes "9223372036854775807" ∷ codes "9223372036854775808" ∷ codes "-18446744073709551617" ∷ codes "0xffffffffffffffffffff" ∷ [])
+large_integers : map (integer_of Saturating) (codes "9223372036854775807" ∷ codes "9223372036854775808" ∷ codes "-18446744073709551617" ∷ codes "0xffffffffffffffffffff" ∷ [])
     ≡ pos 9223372036854775807 ∷ pos 9223372036854775807 ∷ negsuc 9223372036854775806 ∷ pos 9223372036854775807 ∷ []
 large_integers = refl
+
+-- a board counts modulo 2 to the 64th, before and after the sign
+wrapped_integers : map (integer_of Wrapping) (codes "9223372036854775807" ∷ codes "9223372036854775808" ∷ codes "-0x8000000000000000" ∷ codes "0xffffffffffffffff" ∷ codes "18446744073709551621abc" ∷ codes "-18446744073709551617" ∷ codes "-01777777777777777777777" ∷ [])
+    ≡ pos 9223372036854775807 ∷ negsuc 9223372036854775807 ∷ negsuc 9223372036854775807 ∷ negsuc 0 ∷ pos 5 ∷ negsuc 0 ∷ pos 1 ∷ []
+unfolding int_wrap
+wrapped_integers = refl
+
+-- so the same comparison may hold in one shell alone
+above : List ℕ → List (List ℕ)
+above number = number ∷ codes "-gt" ∷ codes "1" ∷ []
+
+large_for_test : map (λ (number : List ℕ). expression_of (above number)) (codes "18446744073709551615" ∷ codes "-18446744073709551614" ∷ []) ≡ Some true ∷ Some false ∷ []
+unfolding above
+large_for_test = refl
+
+large_on_a_board : map (λ (number : List ℕ). board_test_of (λ words. false) (above number)) (codes "18446744073709551615" ∷ codes "-18446744073709551614" ∷ []) ≡ false ∷ true ∷ []
+unfolding above int_wrap
+large_on_a_board = refl
 
 -- values of `setexpr` are hexadecimal with or without `0x`, and taken modulo 2 to the 64th
 values : map value_of (codes "10" ∷ codes "0x10" ∷ codes "0Xfg" ∷ codes "0x" ∷ codes "0xg" ∷ codes "Fz" ∷ codes "-1" ∷ codes "10000000000000001" ∷ [] ∷ [])

@@ -10,6 +10,7 @@ use Rattle.hush_calc.specs.declared.comparison.Comparison.{Comparison}
 use Rattle.hush_calc.specs.declared.comparison.Opening.TheVariants.{Not, Filled, Empty, Word}
 use Rattle.hush_calc.specs.declared.comparison.Joint.{Joint}
 use Rattle.hush_calc.specs.declared.comparison.Joint.TheVariants.{And, Or}
+use Rattle.hush_calc.specs.declared.numbers.Counting.TheVariants.{Saturating}
 use Rattle.hush_calc.specs.Test.{spelling, comparisons, comparison_of, holds, opening_of, joint_of, joint_value, is_empty, signed, from_term, from_comparison, from_operand, from_joint, expression_of}
 use Rattle.hush_calc.specs.Expressions as tree
 use Rattle.hush_calc.specs.Expressions.{Term, Expression, term_words, joint_word, words_of, term_value, value, IsTerm, IsExpression, IsWritten}
@@ -103,7 +104,7 @@ empty-found f odd w ws v is found = record {
 }
 
 compared-found : (f : Bool → Bool) (odd : Bool) (w op : List ℕ) (c : Comparison) (ws : List (List ℕ)) (v : Bool) → opening_of w ≡ Word → op ≡ spelling c →
-    OperandFound (λ t. f (signed odd (holds c w t))) ws v → TermFound f odd (w ∷ op ∷ ws) v
+    OperandFound (λ t. f (signed odd (holds Saturating c w t))) ws v → TermFound f odd (w ∷ op ∷ ws) v
 compared-found f odd w op c ws v is spelled found = record {
   term = tree.Plain (tree.Compared w c found.operand);
   rest = found.rest;
@@ -115,8 +116,8 @@ compared-found f odd w op c ws v is spelled found = record {
 comparison-found : (f : Bool → Bool) (odd : Bool) (w : List ℕ) (ws : List (List ℕ)) (v : Bool) → opening_of w ≡ Word → from_comparison (λ b. f (signed odd b)) w ws ≡ Some v → TermFound f odd (w ∷ ws) v
 comparison-found f odd w [] v is e = cc
 comparison-found f odd w (op ∷ ws) v is e =
-    option_and_then_some (λ c. from_operand (λ t. f (signed odd (holds c w t))) ws) (comparison_of op) v e
-    (λ c spelled h. compared-found f odd w op c ws v is (comparison-word op c spelled) (operand-found (λ t. f (signed odd (holds c w t))) ws v h))
+    option_and_then_some (λ c. from_operand (λ t. f (signed odd (holds Saturating c w t))) ws) (comparison_of op) v e
+    (λ c spelled h. compared-found f odd w op c ws v is (comparison-word op c spelled) (operand-found (λ t. f (signed odd (holds Saturating c w t))) ws v h))
 
 negated-found : (f : Bool → Bool) (odd : Bool) (w : List ℕ) (ws : List (List ℕ)) (v : Bool) → w ≡ codes "!" → TermFound f (not odd) ws v → TermFound f odd (w ∷ ws) v
 negated-found f odd w ws v is found = record {

@@ -5,6 +5,7 @@ use Rattle.std.specs.Str.{bytes_eq}
 use Rattle.hush_calc.specs.declared.comparison.Comparison.{Comparison}
 use Rattle.hush_calc.specs.declared.comparison.Opening.TheVariants.{Not, Filled, Empty, Word}
 use Rattle.hush_calc.specs.declared.comparison.Joint.{Joint}
+use Rattle.hush_calc.specs.declared.numbers.Counting.TheVariants.{Wrapping}
 use Rattle.hush_calc.specs.declared.board.Reading.{Reading}
 use Rattle.hush_calc.specs.Test.{comparison_of, holds, opening_of, joint_of, joint_value, is_empty, signed}
 
@@ -56,7 +57,7 @@ abbrev mutual
   pub board_compared : (there : Files) → Reading → List ℕ → Comparison → List (List ℕ) → Bool
   board_compared there r s comparison [] = true
   board_compared there r s comparison (w ∷ []) = true
-  board_compared there r s comparison (w ∷ t ∷ ws) = board_from there (with_value r (holds comparison s t)) ws
+  board_compared there r s comparison (w ∷ t ∷ ws) = board_from there (with_value r (holds Wrapping comparison s t)) ws
 
   -- after `-n` and `-z`
   pub board_operand : (there : Files) → Reading → (List ℕ → Bool) → List (List ℕ) → Bool

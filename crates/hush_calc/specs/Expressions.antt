@@ -4,6 +4,7 @@ use Rattle.hush_calc.specs.declared.comparison.Comparison.{Comparison}
 use Rattle.hush_calc.specs.declared.comparison.Opening.TheVariants.{Word}
 use Rattle.hush_calc.specs.declared.comparison.Joint.{Joint}
 use Rattle.hush_calc.specs.declared.comparison.Joint.TheVariants.{And, Or}
+use Rattle.hush_calc.specs.declared.numbers.Counting.TheVariants.{Saturating}
 use Rattle.hush_calc.specs.Test.{spelling, holds, opening_of, joint_value, is_empty}
 
 -- `-n s`, `-z s`, or a comparison of two words
@@ -42,7 +43,7 @@ words_of (Joined expression joint term) = words_of expression ++ joint_word join
 abbrev pub primary_value : Primary → Bool
 primary_value (Filled s) = not (is_empty s)
 primary_value (Empty s) = is_empty s
-primary_value (Compared s comparison t) = holds comparison s t
+primary_value (Compared s comparison t) = holds Saturating comparison s t
 
 abbrev pub term_value : Term → Bool
 term_value (Plain primary) = primary_value primary

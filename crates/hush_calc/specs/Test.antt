@@ -10,6 +10,8 @@ use Rattle.hush_calc.specs.declared.comparison.Opening.{Opening}
 use Rattle.hush_calc.specs.declared.comparison.Opening.TheVariants.{Not, Filled, Empty, Word}
 use Rattle.hush_calc.specs.declared.comparison.Joint.{Joint}
 use Rattle.hush_calc.specs.declared.comparison.Joint.TheVariants.{And, Or}
+use Rattle.hush_calc.specs.declared.numbers.Counting.{Counting}
+use Rattle.hush_calc.specs.declared.numbers.Counting.TheVariants.{Saturating}
 use Rattle.hush_calc.specs.Numbers.{integer_of}
 
 abbrev pub spelling : Comparison → List ℕ
@@ -32,17 +34,17 @@ abbrev pub comparison_of : List ℕ → Option Comparison
 comparison_of word = find (λ comparison. bytes_eq (spelling comparison) word) comparisons
 
 -- the first four compare bytes, the others the numbers at the front of the words
-abbrev pub holds : Comparison → List ℕ → List ℕ → Bool
-holds Same s t = bytes_eq s t
-holds Differs s t = not (bytes_eq s t)
-holds Before s t = is_lt (slice_cmp nat_cmp s t)
-holds After s t = is_gt (slice_cmp nat_cmp s t)
-holds Equal s t = int_eq (integer_of s) (integer_of t)
-holds NotEqual s t = not (int_eq (integer_of s) (integer_of t))
-holds Less s t = int_lt (integer_of s) (integer_of t)
-holds LessOrEqual s t = int_le (integer_of s) (integer_of t)
-holds Greater s t = int_lt (integer_of t) (integer_of s)
-holds GreaterOrEqual s t = int_le (integer_of t) (integer_of s)
+abbrev pub holds : Counting → Comparison → List ℕ → List ℕ → Bool
+holds counting Same s t = bytes_eq s t
+holds counting Differs s t = not (bytes_eq s t)
+holds counting Before s t = is_lt (slice_cmp nat_cmp s t)
+holds counting After s t = is_gt (slice_cmp nat_cmp s t)
+holds counting Equal s t = int_eq (integer_of counting s) (integer_of counting t)
+holds counting NotEqual s t = not (int_eq (integer_of counting s) (integer_of counting t))
+holds counting Less s t = int_lt (integer_of counting s) (integer_of counting t)
+holds counting LessOrEqual s t = int_le (integer_of counting s) (integer_of counting t)
+holds counting Greater s t = int_lt (integer_of counting t) (integer_of counting s)
+holds counting GreaterOrEqual s t = int_le (integer_of counting t) (integer_of counting s)
 
 -- what a word is where a primary may begin
 abbrev pub opening_of : List ℕ → Opening
@@ -84,7 +86,7 @@ abbrev mutual
   -- the operator after the first word of a comparison
   pub from_comparison : (f : Bool → Bool) → List ℕ → List (List ℕ) → Option Bool
   from_comparison f s [] = None
-  from_comparison f s (w ∷ ws) = option_and_then (λ comparison. from_operand (λ t. f (holds comparison s t)) ws) (comparison_of w)
+  from_comparison f s (w ∷ ws) = option_and_then (λ comparison. from_operand (λ t. f (holds Saturating comparison s t)) ws) (comparison_of w)
 
   -- the last word of a primary
   pub from_operand : (f : List ℕ → Bool) → List (List ℕ) → Option Bool

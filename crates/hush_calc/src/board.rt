@@ -5,6 +5,7 @@ ghost use Rattle.hush_calc.specs.BoardSteps.{GoesOn};
 
 use crate::comparison::{Comparison, Joint, Opening};
 use crate::fields::{Fields, is_text};
+use crate::numbers::Counting;
 
 /// What a test holds between two words.
 #[derive(Clone, Copy)]
@@ -96,7 +97,7 @@ fn read_compared(
 {
     let _operator = words.next()?;
     match words.next() {
-        Some(right) => Some(reading.with_value(comparison.holds(left, right))),
+        Some(right) => Some(reading.with_value(comparison.holds(Counting::Wrapping, left, right))),
         None => None,
     }
 }

@@ -2,7 +2,7 @@
 ghost use Rattle.std.specs.Prelude.{◌≡◌};
 
 use crate::fields::is_text;
-use crate::numbers::integer_of;
+use crate::numbers::{Counting, integer_of};
 
 /// A comparison of two words: the first four of their bytes, the others of the numbers in them.
 #[derive(Clone, Copy)]
@@ -46,20 +46,20 @@ impl Comparison {
     }
 
     /// Whether it holds between two words. Bytes are compared as unsigned numbers, a prefix before the longer word.
-    pub(crate) fn holds(self, left: &[u8], right: &[u8]) -> bool
-        ensures { result ≡ holds self left.now right.now }
+    pub(crate) fn holds(self, counting: Counting, left: &[u8], right: &[u8]) -> bool
+        ensures { result ≡ holds counting self left.now right.now }
     {
         match self {
             Comparison::Same => left == right,
             Comparison::Differs => left != right,
             Comparison::Before => left.cmp(right).is_lt(),
             Comparison::After => left.cmp(right).is_gt(),
-            Comparison::Equal => integer_of(left) == integer_of(right),
-            Comparison::NotEqual => integer_of(left) != integer_of(right),
-            Comparison::Less => integer_of(left) < integer_of(right),
-            Comparison::LessOrEqual => integer_of(left) <= integer_of(right),
-            Comparison::Greater => integer_of(left) > integer_of(right),
-            Comparison::GreaterOrEqual => integer_of(left) >= integer_of(right),
+            Comparison::Equal => integer_of(counting, left) == integer_of(counting, right),
+            Comparison::NotEqual => integer_of(counting, left) != integer_of(counting, right),
+            Comparison::Less => integer_of(counting, left) < integer_of(counting, right),
+            Comparison::LessOrEqual => integer_of(counting, left) <= integer_of(counting, right),
+            Comparison::Greater => integer_of(counting, left) > integer_of(counting, right),
+            Comparison::GreaterOrEqual => integer_of(counting, left) >= integer_of(counting, right),
         }
     }
 

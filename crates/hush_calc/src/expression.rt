@@ -5,6 +5,7 @@ ghost use Rattle.hush_calc.specs.TestSteps.{Reads};
 
 use crate::Fields;
 use crate::comparison::{Comparison, Joint, Opening};
+use crate::numbers::Counting;
 
 /// Whether the words after `test` are an expression that is true.
 ///
@@ -78,7 +79,7 @@ fn read_comparison(left: &[u8], words: &mut Fields<'_>) -> Option<bool>
 {
     let comparison = Comparison::of(words.next()?)?;
     match words.next() {
-        Some(right) => Some(comparison.holds(left, right)),
+        Some(right) => Some(comparison.holds(Counting::Saturating, left, right)),
         None => None,
     }
 }

@@ -1,5 +1,5 @@
 //! Digits, and the numbers that they spell.
-ghost use Rattle.std.specs.Prelude.{◌≡◌, ◌<◌, ◌≤◌, min};
+ghost use Rattle.std.specs.Prelude.{◌≡◌, ◌<◌, ◌≤◌, ◌%◌, ◌^◌, min};
 ghost use Rattle.text_parts.specs.Digits.{digit_value, digits_in_front, is_digit, number, radix};
 
 /// The base in which a number is spelled.
@@ -46,6 +46,20 @@ pub fn number(base: Base, digits: &[u8], most: u64) -> u64
     for digit in digits {
         if let Some(value) = digit_value(*digit) {
             number = number.saturating_mul(radix).saturating_add(value).min(most);
+        }
+    }
+    number
+}
+
+/// The number that digits spell, modulo 2 to the 64th.
+pub fn wrapped_number(base: Base, digits: &[u8]) -> u64
+    ensures { result ≡ number base digits.now % 2 ^ 64 }
+{
+    let radix = base.radix();
+    let mut number = 0u64;
+    for digit in digits {
+        if let Some(value) = digit_value(*digit) {
+            number = number.wrapping_mul(radix).wrapping_add(value);
         }
     }
     number

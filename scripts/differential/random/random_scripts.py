@@ -5,7 +5,7 @@ from differential.harness.setups import Setup
 NAMES = [b"a", b"b", b"i", b"n", b"x", b"_y", b"boot", b"serial#", b".flags", b"none", b"r", b"s", b"t"]
 LOCALS = [b"a", b"b", b"i", b"n", b"x", b"_y", b"z"]
 SCRIPTS = [b"r", b"s", b"t"]
-TEXTS = b"0 1 2 10 ff 0x1f -5 010 x ab a=b -n -f -a ! *4 = < sub".split()
+TEXTS = b"0 1 2 10 ff 0x1f -5 010 x ab a=b -n -f -a ! *4 = < sub 9223372036854775808 -18446744073709551615".split()
 LETTERS = b"abnx019.,-_=<>()[]*!/}{`%@"
 VALUES = [b"0", b"1", b"9", b"1 2", b" a  b ", b"ff", b"x\ty", b"a b c", b"-n", b"$n", b"true", b"two\nlines", b"fi"]
 FLAGS = [b"n:d", b"n:x,x:sr", b"b:so", b"a:sc,boot:sr,b:sc", b"i:b, n : da ,,x", b"r:so", b"a:i", b"a:m,a:sc"]
