@@ -2,22 +2,26 @@
 use Rattle.std.proofs.Common.{◌≡◌, ℕ, Bool, true, false, ◌+◌, ◌<◌, ◌≤◌, List, [], ◌∷◌, ◌++◌, map, Option, Some, None, refl, sym, ap, ◌∙◌, arith, append_assoc, append-nil, subst}
 use Rattle.std.specs.Prelude.{IsSome, OnOk, Result, Ok, Err, is_none}
 use Rattle.std.proofs.lemmas.Grind.{flat_map-append}
-use Rattle.std.proofs.lemmas.List.{map-append}
+use Rattle.std.proofs.lemmas.List.{append_cancel_left, map-append}
+use Rattle.std.specs.List.{flat_map}
 use Rattle.hush_words.specs.Words.{Atom}
 use Rattle.hush_words.specs.Parts.{Written}
+use Rattle.hush_words.specs.declared.parts.Word.{Word}
+use Rattle.hush_syntax.specs.CommandWords.{Leaf, leaf_in, script_leaves}
 use Rattle.hush_syntax.specs.declared.nodes.NodeId.{NodeId}
 use Rattle.hush_syntax.specs.declared.nodes.Link as link
 use Rattle.hush_syntax.specs.declared.nodes.Branch as branch
 use Rattle.hush_syntax.specs.declared.nodes.Operator.{Operator}
-use Rattle.hush_syntax.specs.Grammar.{Command, If, For, While, Until, Branches, Elif, Else, Fi, Chain, First, Links, End, Link, Chains, Last, More}
+use Rattle.hush_syntax.specs.Grammar.{Command, Simple, Assign, If, For, While, Until, Branches, Elif, Else, Fi, Chain, First, Links, End, Link, Chains, Last, More}
 use Rattle.hush_syntax.specs.Reading.{bind}
 use Rattle.hush_syntax.specs.Nodes.{At, Subtree, OfChains, OfChain, OfCommand, chain_of, AreChains, AreLinks, IsChain, AreBranches}
 use Rattle.fw_check.specs.declared.items.Item.{Item}
 use Rattle.fw_check.specs.declared.items.Part.{Part}
 use Rattle.fw_check.specs.declared.settings.Setting.{Setting}
-use Rattle.fw_check.specs.Settings.{in_chain, in_if, in_list, in_loop, in_turn, plain}
-use Rattle.fw_check.specs.Statements.{Statement, Binds, first_operator, is_bare, is_end, statement_of, of_command, of_branches, of_chain, of_links, of_list}
-use Rattle.fw_check.specs.Gathering.{AreKnown, HasParts, branch_parts, branch_size, chain_size, command_size, if_parts, is_nil, link_parts, link_size, list_parts, list_size, of_subtree, operator_of, otherwise_part, part, size_at, size_of, still_to_come}
+use Rattle.fw_check.specs.Settings.{beginning, in_chain, in_if, in_list, in_loop, in_turn, plain}
+use Rattle.fw_check.specs.Statements.{Statement, Calls, Assigns, Binds, first_operator, is_bare, is_end, item_words, statement_of, of_command, of_branches, of_chain, of_links, of_list, of_script}
+use Rattle.fw_check.specs.Gathering.{AreKnown, BeginWith, HasParts, branch_parts, branch_size, chain_size, command_size, if_parts, is_nil, link_parts, link_size, list_parts, list_size, of_subtree, operator_of, otherwise_part, part, size_at, size_of, statement_leaves, still_to_come}
+use Rattle.fw_check.proofs.LeafLemmas.{Takes, script-leaves}
 
 -- some parts are these statements, and are smaller together than this
 pub record Are (shows : Bool) (at : At) (parts : List Part) (statements : List Statement) (most : ℕ) : Type 0 where
@@ -192,6 +196,7 @@ module _ (shows : Bool) (at : At) where
   none-first text p parts s most e are less = record {
     known = are.known;
     same = ap (of_subtree shows p.setting) e ∙ sym are.same;
+    told = refl;
     smaller = omega (arith, are.size, less, ap size_of e);
   }
 
@@ -222,51 +227,125 @@ module _ (shows : Bool) (at : At) where
   until-parts text p condition body c d e f g =
       none-first text p (part condition (in_loop p.setting) ∷ part body (plain shows) ∷ []) (OfCommand (Until c d)) (list_size c + list_size d) e (loop-is p.setting c d condition body f g) (omega arith)
 
-  pub for-parts : (text : Written) (p : Part) (body : NodeId) (it : Item) (name : List ℕ) (words : List (List Atom)) (d : Chains) → at p.id ≡ Some (OfCommand (For name words d)) → at body ≡ Some (OfChains d) →
-      statement_of text it ≡ Binds p.setting name words → HasParts text shows at p (it ∷ []) (part body (in_turn shows p.setting) ∷ [])
-  for-parts text p body it name words d e f is =
-      let r = body-is (in_turn shows p.setting) d body f in
-      record {
-        known = r.known;
-        same = ap (of_subtree shows p.setting) e ∙ (λ i. sym is i ∷ sym r.same i);
-        smaller = omega (arith, r.size, ap size_of e);
-      }
+  -- an item, and then the statements of these parts
+  one-first : (text : Written) (p : Part) (it : Item) (st : Statement) (coming left : List Word) (parts : List Part) (c : Command) (rest : List Statement) (most : ℕ) → at p.id ≡ Some (OfCommand c) →
+      of_command shows p.setting c ≡ st ∷ rest → Takes text coming left it st → Are shows at parts rest most → most < command_size c → HasParts text shows at p (it ∷ []) parts
+  one-first text p it st coming left parts c rest most e f takes are less = record {
+    known = are.known;
+    same = ap (of_subtree shows p.setting) e ∙ f ∙ (λ i. sym takes.same i ∷ sym are.same i);
+    told = ap (map (leaf_in text)) (append-nil (item_words it)) ∙ takes.told ∙ ap statement_leaves (sym takes.same) ∙ sym (append-nil (statement_leaves (statement_of text it)));
+    smaller = omega (arith, are.size, less, ap size_of e);
+  }
+
+  pub for-parts : (text : Written) (p : Part) (body : NodeId) (it : Item) (name : List ℕ) (words : List (List Atom)) (d : Chains) (coming left : List Word) → at p.id ≡ Some (OfCommand (For name words d)) →
+      at body ≡ Some (OfChains d) → Takes text coming left it (Binds p.setting name words) → HasParts text shows at p (it ∷ []) (part body (in_turn shows p.setting) ∷ [])
+  for-parts text p body it name words d coming left e f takes =
+      let own = in_turn shows p.setting in
+      one-first text p it (Binds p.setting name words) coming left (part body own ∷ []) (For name words d) (of_list shows own true d) (list_size d) e refl takes (body-is own d body f) (omega arith)
+
+  pub assign-parts : (text : Written) (p : Part) (it : Item) (name : List ℕ) (value : List Atom) (coming left : List Word) → at p.id ≡ Some (OfCommand (Assign name value)) → Takes text coming left it (Assigns p.setting name value) →
+      HasParts text shows at p (it ∷ []) []
+  assign-parts text p it name value coming left e takes = one-first text p it (Assigns p.setting name value) coming left [] (Assign name value) [] 0 e refl takes none-are (omega arith)
+
+  pub simple-parts : (text : Written) (p : Part) (it : Item) (words : List (List Atom)) (coming left : List Word) → at p.id ≡ Some (OfCommand (Simple words)) → Takes text coming left it (Calls p.setting words) →
+      HasParts text shows at p (it ∷ []) []
+  simple-parts text p it words coming left e takes = one-first text p it (Calls p.setting words) coming left [] (Simple words) [] 0 e refl takes none-are (omega arith)
 
 -- what was gathered of a part
-abbrev pub Gathers : Written → (shows : Bool) → At → Part → List Part → List Item → List Part → List Item → Type 0
-Gathers text shows at p waiting items new new_items =
-    (more : List Item) × (parts : List Part) × (new ≡ parts ++ waiting) × (new_items ≡ items ++ more) × HasParts text shows at p more parts
+abbrev pub Gathers : Written → (shows : Bool) → At → Part → List Part → List Item → List Word → List Part → List Item → List Word → Type 0
+Gathers text shows at p waiting items coming new new_items new_coming =
+    (more : List Item) × (parts : List Part) × (new ≡ parts ++ waiting) × (new_items ≡ items ++ more) × (coming ≡ flat_map item_words more ++ new_coming) × HasParts text shows at p more parts
 
-pub gather-nodes : {E : Type 0} (r : Result (Unit {0}) E) (text : Written) (shows : Bool) (at : At) (p : Part) (parts waiting new : List Part) (items : List Item) → HasParts text shows at p [] parts →
-    OnOk r (new ≡ parts ++ waiting) → OnOk r (Gathers text shows at p waiting items new items)
-gather-nodes (Ok u) text shows at p parts waiting new items has put = ([], parts, put, sym (append-nil items), has)
-gather-nodes (Err e) text shows at p parts waiting new items has put = put
+pub gather-nodes : {E : Type 0} (r : Result (Unit {0}) E) (text : Written) (shows : Bool) (at : At) (p : Part) (parts waiting new : List Part) (items : List Item) (coming : List Word) → HasParts text shows at p [] parts →
+    OnOk r (new ≡ parts ++ waiting) → OnOk r (Gathers text shows at p waiting items coming new items coming)
+gather-nodes (Ok u) text shows at p parts waiting new items coming has put = ([], parts, put, sym (append-nil items), refl, has)
+gather-nodes (Err e) text shows at p parts waiting new items coming has put = put
 
-pub gather-one : {E : Type 0} (r : Result (Unit {0}) E) (text : Written) (shows : Bool) (at : At) (p : Part) (it : Item) (parts waiting new : List Part) (items new_items : List Item) → HasParts text shows at p (it ∷ []) parts →
-    new ≡ parts ++ waiting → OnOk r (new_items ≡ items ++ it ∷ []) → OnOk r (Gathers text shows at p waiting items new new_items)
-gather-one (Ok u) text shows at p it parts waiting new items new_items has put added = (it ∷ [], parts, put, added, has)
-gather-one (Err e) text shows at p it parts waiting new items new_items has put added = added
+pub gather-one : {E : Type 0} (r : Result (Unit {0}) E) (text : Written) (shows : Bool) (at : At) (p : Part) (it : Item) (parts waiting new : List Part) (items new_items : List Item) (coming new_coming : List Word) → HasParts text shows at p (it ∷ []) parts →
+    new ≡ parts ++ waiting → coming ≡ item_words it ++ new_coming → OnOk r (new_items ≡ items ++ it ∷ []) → OnOk r (Gathers text shows at p waiting items coming new new_items new_coming)
+gather-one (Ok u) text shows at p it parts waiting new items new_items coming new_coming has put taken added =
+    (it ∷ [], parts, put, added, taken ∙ ap (λ (ws : List Word). ws ++ new_coming) (sym (append-nil (item_words it))), has)
+gather-one (Err e) text shows at p it parts waiting new items new_items coming new_coming has put taken added = added
 
 -- ---- the loop
 
--- each part that is still to come is known, and these are what is missing of a script's statements
-pub record StillGathers (text : Written) (shows : Bool) (at : At) (all : List Statement) (items : List Item) (waiting : List Part) : Type 0 where
+-- each part that is still to come is known, these are what is missing of a script's statements, and the words that are
+-- still to come are theirs
+pub record StillGathers (text : Written) (shows : Bool) (at : At) (all : List Statement) (words : List Word) (items : List Item) (coming : List Word) (waiting : List Part) : Type 0 where
   pub known : AreKnown at waiting
   pub same : map (statement_of text) items ++ still_to_come shows at waiting ≡ all
+  pub taken : flat_map item_words items ++ coming ≡ words
+  pub told : map (leaf_in text) coming ≡ flat_map statement_leaves (still_to_come shows at waiting)
 
-pub gather-next : (text : Written) (shows : Bool) (at : At) (all : List Statement) (items new_items : List Item) (p : Part) (rest new : List Part) → StillGathers text shows at all items (p ∷ rest) →
-    Gathers text shows at p rest items new new_items → StillGathers text shows at all new_items new
-gather-next text shows at all items new_items p rest new so_far g =
-    let st : Item → Statement = statement_of text in
-    record {
-      known = subst (AreKnown at) (sym g.2) (known-append shows at g.1 rest g.4.known so_far.known.1);
-      same =
-          (λ i. map st (g.3 i) ++ still_to_come shows at (g.2 i))
-          ∙ (λ i. map-append st items g.0 i ++ flat_map-append (λ (q : Part). of_subtree shows q.setting (at q.id)) g.1 rest i)
-          ∙ append_assoc (map st items) (map st g.0) (still_to_come shows at g.1 ++ still_to_come shows at rest)
-          ∙ ap (λ (ys : List Statement). map st items ++ ys) (sym (append_assoc (map st g.0) (still_to_come shows at g.1) (still_to_come shows at rest)) ∙ ap (λ (ys : List Statement). ys ++ still_to_come shows at rest) (sym g.4.same))
-          ∙ so_far.same;
+module _ (text : Written) (shows : Bool) (at : At) where
+  -- the words of a part, before those of others
+  pub begins-with : (coming : List Word) (p : Part) (rest : List Part) → map (leaf_in text) coming ≡ flat_map statement_leaves (still_to_come shows at (p ∷ rest)) → BeginWith text coming (of_subtree shows p.setting (at p.id))
+  begins-with coming p rest told =
+      (flat_map statement_leaves (still_to_come shows at rest), told ∙ flat_map-append statement_leaves (of_subtree shows p.setting (at p.id)) (still_to_come shows at rest))
+
+  still-append : (parts rest : List Part) → still_to_come shows at (parts ++ rest) ≡ still_to_come shows at parts ++ still_to_come shows at rest
+  still-append parts rest = flat_map-append (λ (q : Part). of_subtree shows q.setting (at q.id)) parts rest
+
+  -- what a part and the parts below it are still to give, once its items are gathered
+  still-next : (p : Part) (rest parts new : List Part) (more : List Item) → HasParts text shows at p more parts → new ≡ parts ++ rest →
+      still_to_come shows at (p ∷ rest) ≡ map (statement_of text) more ++ still_to_come shows at new
+  still-next p rest parts new more has put =
+      ap (λ (ys : List Statement). ys ++ still_to_come shows at rest) has.same
+      ∙ append_assoc (map (statement_of text) more) (still_to_come shows at parts) (still_to_come shows at rest)
+      ∙ ap (λ (ys : List Statement). map (statement_of text) more ++ ys) (sym (still-append parts rest) ∙ ap (still_to_come shows at) (sym put))
+
+  told-next : (p : Part) (rest parts new : List Part) (more : List Item) (coming new_coming : List Word) → HasParts text shows at p more parts → new ≡ parts ++ rest → coming ≡ flat_map item_words more ++ new_coming →
+      map (leaf_in text) coming ≡ flat_map statement_leaves (still_to_come shows at (p ∷ rest)) → map (leaf_in text) new_coming ≡ flat_map statement_leaves (still_to_come shows at new)
+  told-next p rest parts new more coming new_coming has put taken told =
+      append_cancel_left (map (leaf_in text) (flat_map item_words more)) (map (leaf_in text) new_coming) (flat_map statement_leaves (still_to_come shows at new))
+      (sym (map-append (leaf_in text) (flat_map item_words more) new_coming)
+      ∙ ap (map (leaf_in text)) (sym taken)
+      ∙ told
+      ∙ ap (flat_map statement_leaves) (still-next p rest parts new more has put)
+      ∙ flat_map-append statement_leaves (map (statement_of text) more) (still_to_come shows at new)
+      ∙ ap (λ (ls : List Leaf). ls ++ flat_map statement_leaves (still_to_come shows at new)) (sym has.told))
+
+  module _ (all : List Statement) (words : List Word) where
+    pub gather-next : (items new_items : List Item) (coming new_coming : List Word) (p : Part) (rest new : List Part) → StillGathers text shows at all words items coming (p ∷ rest) →
+        Gathers text shows at p rest items coming new new_items new_coming → StillGathers text shows at all words new_items new_coming new
+    gather-next items new_items coming new_coming p rest new so_far g =
+        let st : Item → Statement = statement_of text in
+        record {
+          known = subst (AreKnown at) (sym g.2) (known-append shows at g.1 rest g.5.known so_far.known.1);
+          same =
+              ap (λ (xs : List Item). map st xs ++ still_to_come shows at new) g.3
+              ∙ ap (λ (ys : List Statement). ys ++ still_to_come shows at new) (map-append st items g.0)
+              ∙ append_assoc (map st items) (map st g.0) (still_to_come shows at new)
+              ∙ ap (λ (ys : List Statement). map st items ++ ys) (sym (still-next p rest g.1 new g.0 g.5 g.2))
+              ∙ so_far.same;
+          taken =
+              ap (λ (xs : List Item). flat_map item_words xs ++ new_coming) g.3
+              ∙ ap (λ (ws : List Word). ws ++ new_coming) (flat_map-append item_words items g.0)
+              ∙ append_assoc (flat_map item_words items) (flat_map item_words g.0) new_coming
+              ∙ ap (λ (ws : List Word). flat_map item_words items ++ ws) (sym g.4)
+              ∙ so_far.taken;
+          told = told-next p rest g.1 new g.0 coming new_coming g.5 g.2 g.4 so_far.told;
+        }
+
+-- the loop begins with the root, if there is one
+module _ (text : Written) (shows : Bool) (at : At) (asked : Bool) (tree : Option Chains) (words : List Word) (told : map (leaf_in text) words ≡ script_leaves tree) where
+  module _ (items : List Item) (coming : List Word) (waiting : List Part) (e : items ≡ []) (f : coming ≡ words) where
+    begun : (parts : List Part) → waiting ≡ parts → AreKnown at parts → still_to_come shows at parts ≡ of_script shows asked tree → StillGathers text shows at (of_script shows asked tree) words items coming waiting
+    begun parts g known same = record {
+      known = subst (AreKnown at) (sym g) known;
+      same = (λ i. map (statement_of text) (e i) ++ still_to_come shows at (g i)) ∙ same;
+      taken = λ i. flat_map item_words (e i) ++ f i;
+      told = ap (map (leaf_in text)) f ∙ told ∙ sym (script-leaves shows asked tree) ∙ ap (flat_map statement_leaves) (sym (ap (still_to_come shows at) g ∙ same));
     }
 
-pub gather-smaller : (text : Written) (shows : Bool) (at : At) (items new_items : List Item) (p : Part) (rest new : List Part) → Gathers text shows at p rest items new new_items → size_at at new < size_at at (p ∷ rest)
-gather-smaller text shows at items new_items p rest new g = omega (arith, g.4.smaller, ap (size_at at) g.2, size-append shows at g.1 rest)
+    pub begun-none : waiting ≡ [] → tree ≡ None → StillGathers text shows at (of_script shows asked tree) words items coming waiting
+    begun-none g h = begun [] g tt (ap (of_script shows asked) (sym h))
+
+    pub begun-at : (id : NodeId) (cs : Chains) → waiting ≡ part id (beginning asked) ∷ [] → at id ≡ Some (OfChains cs) → tree ≡ Some cs → StillGathers text shows at (of_script shows asked tree) words items coming waiting
+    begun-at id cs g h k =
+        begun (part id (beginning asked) ∷ []) g (rw h refl, tt)
+        (append-nil (of_subtree shows (beginning asked) (at id)) ∙ ap (of_subtree shows (beginning asked)) h ∙ ap (of_script shows asked) (sym k))
+
+pub gather-smaller : (text : Written) (shows : Bool) (at : At) (items new_items : List Item) (coming new_coming : List Word) (p : Part) (rest new : List Part) → Gathers text shows at p rest items coming new new_items new_coming →
+    size_at at new < size_at at (p ∷ rest)
+gather-smaller text shows at items new_items coming new_coming p rest new g = omega (arith, g.5.smaller, ap (size_at at) g.2, size-append shows at g.1 rest)

@@ -1,3 +1,4 @@
+mod LeafLemmas
 mod GatherLemmas
 mod FoundLemmas
 mod SummaryLemmas

@@ -2,6 +2,8 @@
 use Rattle.std.specs.Prelude.{◌≡◌, ℕ, ◌+◌, ◌<◌, Bool, true, false, List, [], ◌∷◌, ◌++◌, map, Option, Some, None, is_none, IsSome}
 use Rattle.std.specs.List.{flat_map}
 use Rattle.hush_words.specs.Parts.{Written}
+use Rattle.hush_words.specs.declared.parts.Word.{Word}
+use Rattle.hush_syntax.specs.CommandWords.{Leaf, leaf, leaf_in, name_leaf}
 use Rattle.hush_syntax.specs.declared.nodes.NodeId.{NodeId}
 use Rattle.hush_syntax.specs.declared.nodes.Branch as branch
 use Rattle.hush_syntax.specs.declared.nodes.Link as link
@@ -10,7 +12,7 @@ use Rattle.hush_syntax.specs.Grammar.{Command, Simple, Assign, If, For, While, U
 use Rattle.hush_syntax.specs.Nodes.{At, Subtree, OfChains, OfChain, OfCommand}
 use Rattle.fw_check.specs.declared.items.Item.{Item}
 use Rattle.fw_check.specs.Settings.{in_chain, in_if, in_list, plain}
-use Rattle.fw_check.specs.Statements.{Statement, statement_of, of_command, of_chain, of_list}
+use Rattle.fw_check.specs.Statements.{Statement, Calls, Assigns, Binds, item_words, statement_of, of_command, of_chain, of_list}
 use Rattle.fw_check.specs.declared.items.Part.{Part}
 use Rattle.fw_check.specs.declared.settings.Setting.{Setting}
 
@@ -99,8 +101,19 @@ otherwise_part s (Some id) = part id (plain s.asked) ∷ []
 abbrev pub if_parts : Setting → (first : Bool) → List branch.Branch → Option NodeId → List Part
 if_parts s first bs otherwise = branch_parts s (is_none otherwise) first bs ++ otherwise_part s otherwise
 
+-- the words of a statement
+abbrev pub statement_leaves : Statement → List Leaf
+statement_leaves (Calls s words) = map leaf words
+statement_leaves (Assigns s name value) = name_leaf name ∷ leaf value ∷ []
+statement_leaves (Binds s name words) = name_leaf name ∷ map leaf words
+
+-- these words of a text are those of these statements, and then others
+abbrev pub BeginWith : Written → List Word → List Statement → Type 0
+BeginWith text words statements = (rest : List Leaf) × (map (leaf_in text) words ≡ flat_map statement_leaves statements ++ rest)
+
 -- a part's statements are these items, and then those of these parts, which are smaller together
 pub record HasParts (text : Written) (shows : Bool) (at : At) (p : Part) (items : List Item) (parts : List Part) : Type 0 where
   pub known : AreKnown at parts
   pub same : of_subtree shows p.setting (at p.id) ≡ map (statement_of text) items ++ still_to_come shows at parts
+  pub told : map (leaf_in text) (flat_map item_words items) ≡ flat_map statement_leaves (map (statement_of text) items)
   pub smaller : size_at at parts < size_of (at p.id)

@@ -1,7 +1,10 @@
 -- The commands of a script in the order of its text, at whatever depth (docs/check.md).
 use Rattle.std.specs.Prelude.{◌≡◌, ℕ, Bool, true, false, List, [], ◌∷◌, ◌++◌, map, Option, Some, None}
+use Rattle.std.specs.List.{flat_map}
 use Rattle.hush_words.specs.Words.{Atom}
 use Rattle.hush_words.specs.Parts.{Written, written, word_atoms}
+use Rattle.hush_words.specs.declared.parts.Word.{Word}
+use Rattle.hush_syntax.specs.CommandWords.{word_placed, words_of}
 use Rattle.hush_syntax.specs.Grammar.{Command, Simple, Assign, If, For, While, Until, Branches, Elif, Else, Fi, Chain, First, Links, End, Link, Chains, Last, More, SpellsIn}
 use Rattle.hush_syntax.specs.Reading.{read_in}
 use Rattle.hush_syntax.specs.declared.nodes.Bodies.{Bodies}
@@ -79,7 +82,15 @@ statement_of text (item.Call s words) = Calls s (words_in text words.now)
 statement_of text (item.Assignment s name value) = Assigns s (name_in text name) (word_atoms text value)
 statement_of text (item.Binding s name words) = Binds s (name_in text name) (words_in text words.now)
 
--- these are the statements of the script that this text is, whose status is asked for or isn't
+-- its words in the order of the text
+abbrev pub item_words : Item → List Word
+item_words (item.Call s words) = words.now
+item_words (item.Assignment s name value) = name ∷ value ∷ []
+item_words (item.Binding s name words) = name ∷ words.now
+
+-- these are the statements of the script that this text is, whose status is asked for or isn't; and their words, one
+-- after the other, are the words of the text's commands in the order of the text, each at its place
 abbrev pub AreItemsOf : Bodies → (asked : Bool) → List ℕ → List Item → Type 0
 AreItemsOf bodies asked text items =
     (tree : Option Chains) × SpellsIn bodies tree text × (map (statement_of (written text)) items ≡ of_script (shows_status text) asked tree)
+    × (map (word_placed (written text)) (flat_map item_words items) ≡ words_of text)

@@ -1,12 +1,15 @@
 //! The commands of a script in the order of its text.
 ghost use Rattle.std.specs.Prelude.{◌≡◌, ℕ, true, List, ◌∷◌, ◌++◌, map, reverse, IsSome, IfOk, OnOk, IfSome, IfNone, []};
+ghost use Rattle.std.specs.List.{flat_map};
+ghost use Rattle.hush_syntax.specs.CommandWords.{leaf_in, script_leaves, word_placed, words_of};
 ghost use Rattle.hush_syntax.specs.Scripts.{source_of, subtree_at, tree_of};
 ghost use Rattle.fw_check.specs.declared.items.Item.{Item};
-ghost use Rattle.fw_check.specs.Statements.{statement_of, of_script};
-ghost use Rattle.fw_check.specs.Gathering.{HasParts, branch_parts, if_parts, link_parts, list_parts, operator_of, part};
+ghost use Rattle.fw_check.specs.Statements.{item_words, statement_of, of_script};
+ghost use Rattle.fw_check.specs.Gathering.{BeginWith, HasParts, branch_parts, if_parts, link_parts, list_parts, of_subtree, operator_of, part};
 ghost use Rattle.fw_check.specs.Settings.{in_loop, plain, shows_status};
 ghost use Rattle.fw_check.specs.declared.items.Part.{Part};
 
+use crate::coming_words::ComingWords;
 use crate::settings::{Setting, shows_status};
 use hush_syntax::{Branch, Link, Node, NodeId, Operator, Script, Word};
 use std::alloc::{AllocError, Global};
@@ -156,32 +159,53 @@ pub(crate) fn items_of(
     script: &Script,
     asked: bool,
 ) -> Result<Vec<Item<'_>>, AllocError>
-    ensures { IfOk result (λ items. map (statement_of script.now.text) items.items
+    ensures statements { IfOk result (λ items. map (statement_of script.now.text) items.items
         ≡ of_script (shows_status (source_of script.now)) asked (tree_of script.now)) }
+    ensures words { IfOk result (λ items. map (word_placed script.now.text) (flat_map item_words items.items)
+        ≡ words_of (source_of script.now)) }
+{
+    items_from(alloc, script, script.words(), asked)
+}
+
+/// The same; `words`: the words of its commands.
+fn items_from<'s>(
+    alloc: Global,
+    script: &'s Script,
+    words: &'s [Word],
+    asked: bool,
+) -> Result<Vec<Item<'s>>, AllocError>
+    requires { map (leaf_in script.now.text) words.now ≡ script_leaves (tree_of script.now) }
+    ensures statements { IfOk result (λ items. map (statement_of script.now.text) items.items
+        ≡ of_script (shows_status (source_of script.now)) asked (tree_of script.now)) }
+    ensures words { IfOk result (λ items. flat_map item_words items.items ≡ words.now) }
 {
     let shows = shows_status(script.source());
     let mut items = Vec::new(alloc);
+    let mut coming = ComingWords::new(words);
     let mut waiting = Waiting::new(alloc);
     if let Some(root) = script.root() {
         waiting.push(root, Setting::beginning(asked))?;
     }
     while let Some(part) = waiting.pop() {
-        gather(script, shows, part, &mut waiting, &mut items)?;
+        gather(script, shows, part, &mut waiting, &mut coming, &mut items)?;
     }
     Ok(items)
 }
 
-/// Appends the command that a part is or begins with, if there is one, and puts its other parts on the stack.
+/// Appends the command that a part is or begins with, if there is one, with the words that come next, and puts its
+/// other parts on the stack.
 fn gather<'s>(
     script: &'s Script,
     shows: bool,
     part: Part,
     waiting: &mut Waiting,
+    coming: &mut ComingWords<'s>,
     items: &mut Vec<Item<'s>>,
 ) -> Result<(), AllocError>
-    requires { IsSome (subtree_at script.now part.id) }
+    requires known { IsSome (subtree_at script.now part.id) }
+    requires begins { BeginWith script.now.text coming.old (of_subtree shows part.setting (subtree_at script.now part.id)) }
     ensures { OnOk result ((more : List Item) × (parts : List Part) × (waiting.new ≡ parts ++ waiting.old)
-        × (items.new.items ≡ items.old.items ++ more)
+        × (items.new.items ≡ items.old.items ++ more) × (coming.old ≡ flat_map item_words more ++ coming.new)
         × HasParts script.now.text shows (subtree_at script.now) part more parts) }
 {
     let setting = part.setting;
@@ -192,8 +216,10 @@ fn gather<'s>(
             branches,
             otherwise,
         } => push_if(waiting, setting, branches, otherwise),
-        Node::For { name, words, body } => {
+        Node::For { words, body, .. } => {
             waiting.push(body, setting.in_turn(shows))?;
+            let name = coming.take_one();
+            let words = coming.take(words.len());
             push_item(
                 items,
                 Item::Binding {
@@ -205,15 +231,19 @@ fn gather<'s>(
         }
         Node::While { condition, body } => push_loop(waiting, shows, setting, condition, body),
         Node::Until { condition, body } => push_loop(waiting, shows, setting, condition, body),
-        Node::Assign { name, value } => push_item(
-            items,
-            Item::Assignment {
-                setting,
-                name,
-                value,
-            },
-        ),
-        Node::Simple { words } => push_item(items, Item::Call(setting, words)),
+        Node::Assign { .. } => {
+            let name = coming.take_one();
+            let value = coming.take_one();
+            push_item(
+                items,
+                Item::Assignment {
+                    setting,
+                    name,
+                    value,
+                },
+            )
+        }
+        Node::Simple { words } => push_item(items, Item::Call(setting, coming.take(words.len()))),
     }
 }
 

@@ -1,13 +1,14 @@
 //! A check of boot scripts that runs nothing: what is wrong with scripts, or with those of an environment from some
 //! names on, as lines. docs/check.md states the rules.
 //!
-//! To read in this order: settings, items, literals, name_set, substitutions, commands, rules, lookups, constants; excerpts, lines, json_lines, entry_places,
+//! To read in this order: settings, coming_words, items, literals, name_set, substitutions, commands, rules, lookups, constants; excerpts, lines, json_lines, entry_places,
 //! origins, findings, summary; operators, foreign, calculations, operands, word_pairs, misuse, undefined_names, differences, empty_values, quoting, reread, statuses, command_names, run_targets, statements, script_check; followed, sorted_names, menu,
 //! script_values, following, run_names, foreseen, written, gives, text_names; starts, reading, asking, typed_values, visits; file_checks.
 #![tactic(auto)]
 
 mod asking;
 mod calculations;
+mod coming_words;
 mod command_names;
 mod commands;
 mod constants;

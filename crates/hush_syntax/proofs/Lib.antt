@@ -23,4 +23,8 @@ pub mod FormExits
 pub mod CommandExits
 pub mod Rows
 pub mod Walks
+pub mod WordLaws
+pub mod WordScans
+pub mod PassedWords
+pub mod WordSteps
 pub mod TextRows

@@ -79,7 +79,7 @@ first-word (Semicolon ∷ ts) e = absurd (both_ways false refl e)
 first-word (AndIf ∷ ts) e = absurd (both_ways false refl e)
 first-word (OrIf ∷ ts) e = absurd (both_ways false refl e)
 
-keyword-word : (ts : List Token) (k : Keyword) → keyword_at ts ≡ Some k →
+pub keyword-word : (ts : List Token) (k : Keyword) → keyword_at ts ≡ Some k →
     (w : List Atom) × (rest : List Token) × (ts ≡ Word w ∷ rest) × (keyword_of w ≡ Some k)
 keyword-word [] k e = absurd (let no : ◌≡◌ {A = Option Keyword} None (Some k) = e in cc)
 keyword-word (Word w ∷ ts) k e = (w, ts, refl, e)

@@ -1,5 +1,5 @@
 -- What a function of the parser puts into the tables.
-use Rattle.std.specs.Prelude.{◌≡◌, ℕ, ◌-◌, length, take, drop, List, [], ◌∷◌, ◌++◌, Option, Some, None, Result, Ok, Err, ◌≤◌}
+use Rattle.std.specs.Prelude.{◌≡◌, ℕ, ◌-◌, length, take, drop, List, [], ◌∷◌, ◌++◌, map, Option, Some, None, Result, Ok, Err, ◌≤◌}
 use Rattle.hush_words.specs.Parts.{Written, word_atoms}
 use Rattle.hush_words.specs.Tokens.{Token}
 use Rattle.hush_words.specs.declared.parts.Word.{Word}
@@ -13,7 +13,8 @@ use Rattle.hush_syntax.specs.declared.stored.Stored.TheVariants as stored
 use Rattle.hush_syntax.specs.declared.table.Table.{Table}
 use Rattle.hush_syntax.specs.declared.table.Builder.{Builder}
 use Rattle.hush_syntax.specs.declared.cursor.Tokens.{Tokens}
-use Rattle.hush_syntax.specs.Answers.{Refuses, left_in}
+use Rattle.hush_syntax.specs.Answers.{Refuses, left_in, words_left}
+use Rattle.hush_syntax.specs.CommandWords.{PlacedWord, Spot, word_placed}
 use Rattle.hush_syntax.specs.Grammar.{Command, Simple, Assign, If, For, While, Until, Branches, Elif, Chain, Chains}
 use Rattle.hush_syntax.specs.Reading.{Reader}
 use Rattle.hush_syntax.specs.Trees.{words_in, name_in}
@@ -145,6 +146,14 @@ Parses Is text reader old new before after result = Builds Is text old new (read
 abbrev pub BuildsScript : Written → Builder → Option (Option Chains) → Result (Option NodeId) SyntaxFault → Type 0
 BuildsScript text builder found (Ok root) = (x : Option Chains) × (found ≡ Some x) × ((more : Members) → RootAt (later text builder.table more) x root)
 BuildsScript text builder found (Err f) = Refuses f.kind (found ≡ None)
+
+-- the words in the table, and those still to come
+abbrev pub words_due : Written → Spot → Builder → Tokens → List PlacedWord
+words_due text spot builder tokens = map (word_placed text) builder.table.words.items ++ words_left text spot tokens
+
+-- words went from the tokens into the table, and all together are as they were
+abbrev pub SameWords : Written → Spot → Builder → Tokens → Spot → Builder → Tokens → Type 0
+SameWords text from old before to new after = words_due text to new after ≡ words_due text from old before
 
 -- What the tables hold, as the private functions say it.
 

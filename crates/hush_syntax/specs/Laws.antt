@@ -1,9 +1,10 @@
 -- What follows from the definitions of the grammar.
-use Rattle.std.specs.Prelude.{◌≡◌, ℕ, ◌≤◌, List, Option, Some, ◌↔◌}
+use Rattle.std.specs.Prelude.{◌≡◌, ℕ, ◌≤◌, List, map, Option, Some, ◌↔◌}
 use Rattle.hush_words.specs.Tokens.{Token}
 use Rattle.hush_syntax.specs.declared.nodes.Bodies.{Bodies}
 use Rattle.hush_syntax.specs.declared.nodes.Bodies.TheVariants.{Full}
 use Rattle.hush_syntax.specs.Grammar.{Chains, SpellsScript, script_depth, nest_limit, SpellsIn, SpellsText}
+use Rattle.hush_syntax.specs.CommandWords.{PlacedWord, leaf, script_leaves, words_of}
 use Rattle.hush_syntax.specs.Reading.{script_in, script_of, read_in, read}
 
 -- a text spells at most one tree
@@ -31,3 +32,9 @@ TreesAreReadIn bodies =
 
 abbrev pub ScriptsAreReadIn : Bodies → Type 0
 ScriptsAreReadIn bodies = (text : List ℕ) (script : Option Chains) → (read_in bodies text ≡ Some script) ↔ SpellsIn bodies script text
+
+-- the words of a text's commands are those of the tree that it spells
+abbrev pub WordsAreTold : Type 0
+WordsAreTold =
+    (bodies : Bodies) (text : List ℕ) (script : Option Chains) →
+    SpellsIn bodies script text → map (λ (w : PlacedWord). leaf w.1) (words_of text) ≡ script_leaves script

@@ -1,6 +1,6 @@
 //! The tables that hold a script's nodes.
 
-ghost use Rattle.std.specs.Prelude.{◌≡◌, ◌≤◌, ◌-◌, ◌++◌, [], ◌∷◌, length, take, drop, IfOk, IfErr, OnOk};
+ghost use Rattle.std.specs.Prelude.{◌≡◌, ◌≤◌, ◌-◌, ◌++◌, [], ◌∷◌, length, map, take, drop, IfOk, IfErr, OnOk};
 ghost use Rattle.hush_syntax.specs.declared.syntax_fault.FaultKind.TheVariants.{Memory};
 
 use crate::SyntaxFault;
@@ -37,8 +37,9 @@ pub(crate) struct Builder {
 
 impl Builder {
     ghost use Rattle.hush_words.specs.Parts.{word_atoms};
-    ghost use Rattle.hush_syntax.specs.Answers.{left_in, SameEnd, IsAt, Keeps};
-    ghost use Rattle.hush_syntax.specs.Builders.{Put, Adds, SettlesChains, SettlesLinks, SettlesBranches, Grows, IsEmpty, waiting, add_chains, add_links, add_branches};
+    ghost use Rattle.hush_syntax.specs.Answers.{left_in, SameEnd, IsAt, Keeps, words_left};
+    ghost use Rattle.hush_syntax.specs.CommandWords.{Within, word_placed};
+    ghost use Rattle.hush_syntax.specs.Builders.{Put, Adds, SettlesChains, SettlesLinks, SettlesBranches, Grows, IsEmpty, waiting, add_chains, add_links, add_branches, SameWords, words_due};
     ghost use Rattle.hush_syntax.specs.Stored.{Members, block_of};
     ghost use Rattle.hush_syntax.specs.Reading.{skip, is_word, words_at};
     ghost use Rattle.hush_syntax.specs.Trees.{words_in};
@@ -81,6 +82,7 @@ impl Builder {
         requires at { IsAt text.now tokens.old }
         ensures words { IfOk result (λ block. (more : Members) → words_in text.now
             (block_of block (self.new.table.words.items ++ more.words)) ≡ words_at (left_in text.now tokens.old)) }
+        ensures placed { OnOk result (SameWords text.now Within self.old tokens.old Within self.new tokens.new) }
         ensures grows { OnOk result (Grows self.old.table self.new.table) }
         ensures waits { OnOk result (waiting self.new ≡ waiting self.old) }
         ensures left { OnOk result (left_in text.now tokens.new ≡ skip is_word (left_in text.now tokens.old)) }
@@ -104,6 +106,8 @@ impl Builder {
         requires at { IsAt text.now tokens.old }
         ensures words { IfOk result (λ block. (more : Members) → words_in text.now
             (block_of block (self.new.table.words.items ++ more.words)) ≡ word_atoms text.now name ∷ words_at (left_in text.now tokens.old)) }
+        ensures placed { OnOk result (words_due text.now Within self.new tokens.new
+            ≡ map (word_placed text.now) self.old.table.words.items ++ word_placed text.now name ∷ words_left text.now Within tokens.old) }
         ensures grows { OnOk result (Grows self.old.table self.new.table) }
         ensures waits { OnOk result (waiting self.new ≡ waiting self.old) }
         ensures left { OnOk result (left_in text.now tokens.new ≡ skip is_word (left_in text.now tokens.old)) }
@@ -122,6 +126,7 @@ impl Builder {
     pub(crate) fn put_sides(&mut self, name: Word, value: Word) -> Result<Block, AllocError>
         ensures words { IfOk result (λ block. (more : Members) →
             block_of block (self.new.table.words.items ++ more.words) ≡ name ∷ value ∷ []) }
+        ensures put { OnOk result (self.new.table.words.items ≡ self.old.table.words.items ++ name ∷ value ∷ []) }
         ensures grows { OnOk result (Grows self.old.table self.new.table) }
         ensures waits { OnOk result (waiting self.new ≡ waiting self.old) }
     {

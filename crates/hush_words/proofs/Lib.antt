@@ -18,6 +18,7 @@ pub mod TextLemmas
 pub mod TokenLemmas
 pub mod WordOpens
 pub mod NameRuns
+pub mod EqualsPlaces
 pub mod FormLemmas
 pub mod Rows
 pub mod RangeLemmas

@@ -123,16 +123,20 @@ run-goes source at end b begun here on run =
 line-read : ReadsPlain (92 ∷ 10 ∷ []) []
 line-read rest = (piece-one (92 ∷ 10 ∷ rest) Joined rest (piece-backslash (10 ∷ rest) ∙ escape-newline rest)).0
 
-pub line-goes : (source : List ℕ) (at : ℕ) → begins 92 (drop at source) && begins 10 (drop (at + 1) source) ≡ true →
-    (at + 2 ≤ length source) × ReadsPlain (range_bytes source at (at + 2)) []
-line-goes source at e =
+pub line-bytes : (source : List ℕ) (at : ℕ) → begins 92 (drop at source) && begins 10 (drop (at + 1) source) ≡ true →
+    (at + 2 ≤ length source) × (range_bytes source at (at + 2) ≡ 92 ∷ 10 ∷ [])
+line-bytes source at e =
     let p = and_parts (begins 92 (drop at source)) (begins 10 (drop (at + 1) source)) e in
     let here = begins-here 92 source at p.0 in
     let next' = begins-here 10 source (at + 1) p.1 in
     let two : at + 2 - at ≡ 2 = omega arith in
-    let bytes : range_bytes source at (at + 2) ≡ 92 ∷ 10 ∷ [] =
-    ap (λ n. take n (drop at source)) two ∙ ap (take 2) (here.1 ∙ ap (λ (l : List ℕ). 92 ∷ l) next'.1) in
-    (omega (arith, next'.0), subst (λ l. ReadsPlain l []) (sym bytes) line-read)
+    (omega (arith, next'.0), ap (λ n. take n (drop at source)) two ∙ ap (take 2) (here.1 ∙ ap (λ (l : List ℕ). 92 ∷ l) next'.1))
+
+pub line-goes : (source : List ℕ) (at : ℕ) → begins 92 (drop at source) && begins 10 (drop (at + 1) source) ≡ true →
+    (at + 2 ≤ length source) × ReadsPlain (range_bytes source at (at + 2)) []
+line-goes source at e =
+    let line = line-bytes source at e in
+    (line.0, subst (λ l. ReadsPlain l []) (sym line.1) line-read)
 
 -- a step further
 pub step-on : (source : List ℕ) (start mid end : ℕ) (begun now : Bool) (xs ys : List ℕ) → start ≤ mid → mid ≤ end →

@@ -1,12 +1,12 @@
 -- The token that comes next after a place, by what is there.
 use Rattle.std.specs.Prelude.{◌≡◌, ℕ, ◌+◌, ◌<◌, ◌≤◌, List, [], ◌∷◌, length, drop, Some, None, Ok, Err}
 use Rattle.std.specs.Option.{option_map}
-use Rattle.std.proofs.Common.{sym, ◌∙◌, ap, arith}
+use Rattle.std.proofs.Common.{sym, ◌∙◌, ap, subst, arith}
 use Rattle.hush_words.specs.Reading.{lexeme_at, tokens_left, lexeme_end}
 use Rattle.hush_words.specs.Faults.{placed_left, left_fault}
 use Rattle.hush_words.specs.Parts.{written}
 use Rattle.hush_words.specs.Steps.{StandsAt, lexeme_read, optional_token}
-use Rattle.hush_words.specs.Views.{kind_token, NextToken}
+use Rattle.hush_words.specs.Views.{kind_token, BeginsAt, NextToken}
 use Rattle.hush_words.specs.declared.faults.Fault.{Fault}
 use Rattle.hush_words.specs.declared.tokens.TokenKind.{TokenKind}
 use Rattle.hush_words.specs.declared.tokens.TokenRead.{TokenRead}
@@ -18,9 +18,9 @@ pub token-behind : (source : List ℕ) (place at end : ℕ) (kind : TokenKind) (
     place ≤ at → at < end → end ≤ length source →
     option_map lexeme_read (lexeme_at (drop at source)) ≡ Some (optional_token (written source) (Some kind), drop end source) →
     tokens_left (drop at source) ≡ tokens_left (drop place source) → lexeme_end (drop at source) ≡ lexeme_end (drop place source) →
-    placed_left at (drop at source) ≡ placed_left place (drop place source) →
+    placed_left at (drop at source) ≡ placed_left place (drop place source) → BeginsAt at kind →
     NextToken (written source) place (Ok (Some r))
-token-behind source place at end kind r ek ep ee begun lt within h left ends places =
+token-behind source place at end kind r ek ep ee begun lt within h left ends places starts =
     let t = read-lexeme (drop at source) (optional_token (written source) (Some kind)) (drop end source) h in (
       sym left ∙ t.0 ∙ ap (λ k. kind_token (written source) k ∷ tokens_left (drop end source)) (sym ek)
           ∙ ap (λ n. kind_token (written source) r.token.kind ∷ tokens_left (drop n source)) (sym ee),
@@ -31,6 +31,7 @@ token-behind source place at end kind r ek ep ee begun lt within h left ends pla
           ∙ ap (λ n. (n, kind_token (written source) kind) ∷ placed_left end (drop end source)) (sym ep)
           ∙ ap (λ k. (r.token.place, kind_token (written source) k) ∷ placed_left end (drop end source)) (sym ek)
           ∙ ap (λ n. (r.token.place, kind_token (written source) r.token.kind) ∷ placed_left n (drop n source)) (sym ee),
+      subst (λ n. BeginsAt n r.token.kind) (sym ep) (subst (BeginsAt at) (sym ek) starts),
     )
 
 -- what is passed over

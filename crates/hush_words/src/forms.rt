@@ -6,7 +6,7 @@ ghost use Rattle.std.specs.Option.{option_map};
 ghost use Rattle.hush_words.specs.Forms.{is_plain, goes_on, name_of, assignment_of, split_of};
 ghost use Rattle.hush_words.specs.Parts.{part_atoms, range_bytes, word_atoms};
 ghost use Rattle.hush_words.specs.Reading.{piece_atoms_left, piece_at};
-ghost use Rattle.hush_words.specs.Views.{assignment_view};
+ghost use Rattle.hush_words.specs.Views.{SidesBegin, assignment_view, equals_place};
 ghost use Rattle.hush_words.specs.Words.{is_bare};
 ghost use Rattle.hush_words.specs.Words.Atom.{Plain};
 ghost use Rattle.hush_words.specs.Steps.{PlainRest, NameStep, NameFrom, SplitsAt, StandsAt};
@@ -55,7 +55,8 @@ impl Word {
 
     /// The two sides of an assignment; `None` if the word doesn't have that form.
     pub fn assignment(self, text: &Text) -> Option<Assignment>
-        ensures { option_map (assignment_view text.now) result ≡ split_of (word_atoms text.now self) }
+        ensures sides { option_map (assignment_view text.now) result ≡ split_of (word_atoms text.now self) }
+        ensures places { IfSome result (SidesBegin text.now self.start) }
     {
         match equals_from(front(text.source(), self.end), self.start as usize) {
             Some(at) => Some(Assignment {
@@ -171,7 +172,8 @@ fn begins_piece(source: &[u8], at: usize, first: u8) -> bool
 /// Where the `=` of an assignment that begins at the place is.
 fn equals_from(source: &[u8], start: usize) -> Option<usize>
     requires { IsShort source.now }
-    ensures { SplitsAt source.now start result }
+    ensures splits { SplitsAt source.now start result }
+    ensures first { IfSome result (λ at. at ≡ equals_place source.now start) }
 {
     let name = name_from(source, start);
     if !name.begun {
@@ -186,7 +188,8 @@ fn equals_from(source: &[u8], start: usize) -> Option<usize>
 /// Where the name that unquoted plain bytes at the place begin ends, and whether it has any.
 fn name_from(source: &[u8], start: usize) -> NamePlace
     requires { IsShort source.now }
-    ensures { NameFrom source.now start result }
+    ensures name { NameFrom source.now start result }
+    ensures before { equals_place source.now start ≡ equals_place source.now result.at }
 {
     let mut here = NamePlace {
         at: start,
@@ -201,7 +204,8 @@ fn name_from(source: &[u8], start: usize) -> NamePlace
 /// Where the name goes on after what continues it at the place, be it a joined line; `None` if nothing does.
 fn name_step(source: &[u8], here: NamePlace) -> Option<NamePlace>
     requires { IsShort source.now }
-    ensures { NameStep source.now here result }
+    ensures goes { NameStep source.now here result }
+    ensures before { IfSome result (λ next. equals_place source.now here.at ≡ equals_place source.now next.at) }
 {
     match byte_at(source, here.at) {
         Some(first) => name_step_from(source, here, first),
@@ -213,7 +217,8 @@ fn name_step(source: &[u8], here: NamePlace) -> Option<NamePlace>
 fn name_step_from(source: &[u8], here: NamePlace, first: u8) -> Option<NamePlace>
     requires few { IsShort source.now }
     requires here { StandsAt source.now here.at first }
-    ensures { NameStep source.now here result }
+    ensures goes { NameStep source.now here result }
+    ensures before { IfSome result (λ next. equals_place source.now here.at ≡ equals_place source.now next.at) }
 {
     if goes_on(here.begun, first) {
         Some(NamePlace {

@@ -1,11 +1,11 @@
 //! The tokens of a text (docs/scripts.md, "Words"), read one by one.
 
-ghost use Rattle.std.specs.Prelude.{◌≡◌, ◌≤◌, length, not, is_some, true, ◌==◌, ◌||◌, IfSome};
+ghost use Rattle.std.specs.Prelude.{◌≡◌, ◌≤◌, length, not, is_some, true, ◌==◌, ◌||◌, IfSome, IfOk};
 ghost use Rattle.hush_words.specs.Bytes.{ampersand, vertical_bar};
 ghost use Rattle.hush_words.specs.Tokens.{has_no_nul};
 ghost use Rattle.hush_words.specs.Faults.{first_nul};
 ghost use Rattle.hush_words.specs.Parts.{written};
-ghost use Rattle.hush_words.specs.Views.{NextToken};
+ghost use Rattle.hush_words.specs.Views.{NextToken, BeginsAt};
 ghost use Rattle.hush_words.specs.Ranges.{IsShort};
 ghost use Rattle.hush_words.specs.Steps.{StandsAt, ReadsLexeme};
 
@@ -81,7 +81,8 @@ fn token_read(kind: TokenKind, place: usize, end: usize) -> TokenRead
 fn lexeme(source: &[u8], at: usize, first: u8) -> Result<LexemeRead, Fault>
     requires few { IsShort source.now }
     requires here { StandsAt source.now at first }
-    ensures { ReadsLexeme source.now at result }
+    ensures reads { ReadsLexeme source.now at result }
+    ensures starts { IfOk result (λ r. IfSome r.kind (BeginsAt at)) }
 {
     let end = at + 1;
     if is_blank(first) {
@@ -124,7 +125,8 @@ fn begins_operator(b: u8) -> bool
 fn operator(source: &[u8], at: usize, first: u8) -> Result<LexemeRead, Fault>
     requires here { StandsAt source.now at first }
     requires operator { first == ampersand || first == vertical_bar ≡ true }
-    ensures { ReadsLexeme source.now at result }
+    ensures reads { ReadsLexeme source.now at result }
+    ensures starts { IfOk result (λ r. IfSome r.kind (BeginsAt at)) }
 {
     if !stands_at(source, at + 1, first) {
         return Err(Fault {

@@ -1,9 +1,10 @@
 //! Words, one piece after the other (docs/scripts.md, "Words").
 
-ghost use Rattle.std.specs.Prelude.{◌≡◌, ◌+◌, ◌&&◌, not, true, false, drop};
+ghost use Rattle.std.specs.Prelude.{◌≡◌, ◌+◌, ◌&&◌, not, true, false, drop, IfOk, IfSome};
 ghost use Rattle.hush_words.specs.Bytes.{newline, hash, dollar, backslash};
 ghost use Rattle.hush_words.specs.Words.{ends_word, is_special, is_bare, next};
 ghost use Rattle.hush_words.specs.Ranges.{IsShort};
+ghost use Rattle.hush_words.specs.Views.{BeginsAt};
 ghost use Rattle.hush_words.specs.Steps.{StandsAt, ReadsPiece, ReadsPieces, EndsPlain, ReadsLexeme, begins};
 
 use crate::classes::{Class, byte_at, ends_word, is_special, run_end};
@@ -20,7 +21,8 @@ pub(crate) fn word(source: &[u8], start: usize, first: u8) -> Result<LexemeRead,
     requires inside { ends_word first ≡ false }
     requires no_comment { first ≡ hash → ⊥ }
     requires no_line { begins backslash (drop start source.now) && begins newline (drop (start + 1) source.now) ≡ false }
-    ensures { ReadsLexeme source.now start result }
+    ensures reads { ReadsLexeme source.now start result }
+    ensures starts { IfOk result (λ r. IfSome r.kind (BeginsAt start)) }
 {
     let mut at = run_end(Class::Plain, source, start);
     while let Some(end) = special_pieces(source, at)? {

@@ -12,10 +12,11 @@ use crate::stored::{Block, Stored};
 use crate::table::Builder;
 
 impl<'s> Parser<'s> {
-    ghost use Rattle.hush_syntax.specs.Answers.{Answers, branch, left_in, otherwise, SameEnd, IsAt, HasFaultOf, Keeps};
+    ghost use Rattle.hush_syntax.specs.Answers.{Answers, branch, left_in, otherwise, SameEnd, IsAt, HasFaultOf, Keeps, words_left};
+    ghost use Rattle.hush_syntax.specs.CommandWords.{Beginning, Naming, Within, spot_behind};
     ghost use Rattle.hush_syntax.specs.Grammar.{Chains, Command};
     ghost use Rattle.hush_syntax.specs.Reading.{command, compound, elif_at_once, loop_parts, then_word};
-    ghost use Rattle.hush_syntax.specs.Builders.{Parses, CommandAt, BranchAt, OtherwiseAt, LoopAt};
+    ghost use Rattle.hush_syntax.specs.Builders.{Parses, CommandAt, BranchAt, OtherwiseAt, LoopAt, SameWords};
 
     /// What is after a form's first word. It isn't inlined into what reads every command, which so has less to set up.
     #[inline(never)]
@@ -31,6 +32,7 @@ impl<'s> Parser<'s> {
         requires at { IsAt self.text.now tokens.old }
         requires fault { HasFaultOf self.text.now fault }
         ensures built { Parses CommandAt self.entry.text.now (compound self.entry.bodies (command self.entry.bodies room) keyword) builder.old builder.new tokens.old tokens.new result }
+        ensures words { OnOk result (SameWords self.entry.text.now (spot_behind keyword) builder.old tokens.old Within builder.new tokens.new) }
         ensures whole { OnOk result (SameEnd self.entry.text.now tokens.old tokens.new) }
         ensures at { Keeps self.entry.text.now tokens.new result }
     {
@@ -67,6 +69,7 @@ impl<'s> Parser<'s> {
         requires at { IsAt self.text.now tokens.old }
         ensures built { (form : Chains → Chains → Command) → Parses (LoopAt form) self.entry.text.now
             (loop_parts self.entry.bodies (command self.entry.bodies room) form) builder.old builder.new tokens.old tokens.new result }
+        ensures words { OnOk result (SameWords self.entry.text.now Beginning builder.old tokens.old Within builder.new tokens.new) }
         ensures whole { OnOk result (SameEnd self.entry.text.now tokens.old tokens.new) }
         ensures at { Keeps self.entry.text.now tokens.new result }
     {
@@ -87,6 +90,7 @@ impl<'s> Parser<'s> {
     ) -> Result<NodeId, SyntaxFault>
         requires at { IsAt self.text.now tokens.old }
         ensures built { Parses CommandAt self.entry.text.now (compound self.entry.bodies (command self.entry.bodies room) Keyword.For) builder.old builder.new tokens.old tokens.new result }
+        ensures words { OnOk result (SameWords self.entry.text.now Naming builder.old tokens.old Within builder.new tokens.new) }
         ensures whole { OnOk result (SameEnd self.entry.text.now tokens.old tokens.new) }
         ensures at { Keeps self.entry.text.now tokens.new result }
     {
@@ -111,6 +115,7 @@ impl<'s> Parser<'s> {
     ) -> Result<NodeId, SyntaxFault>
         requires at { IsAt self.text.now tokens.old }
         ensures built { Parses CommandAt self.entry.text.now (compound self.entry.bodies (command self.entry.bodies room) Keyword.If) builder.old builder.new tokens.old tokens.new result }
+        ensures words { OnOk result (SameWords self.entry.text.now Beginning builder.old tokens.old Within builder.new tokens.new) }
         ensures whole { OnOk result (SameEnd self.entry.text.now tokens.old tokens.new) }
         ensures at { Keeps self.entry.text.now tokens.new result }
     {
@@ -138,6 +143,7 @@ impl<'s> Parser<'s> {
     ) -> Result<Branch, SyntaxFault>
         requires at { IsAt self.text.now tokens.old }
         ensures built { Parses BranchAt self.entry.text.now (branch self.entry.bodies (command self.entry.bodies room)) builder.old builder.new tokens.old tokens.new result }
+        ensures words { OnOk result (SameWords self.entry.text.now Beginning builder.old tokens.old Beginning builder.new tokens.new) }
         ensures whole { OnOk result (SameEnd self.entry.text.now tokens.old tokens.new) }
         ensures at { Keeps self.entry.text.now tokens.new result }
     {
@@ -151,6 +157,7 @@ impl<'s> Parser<'s> {
     fn then_word(self, tokens: &mut Tokens) -> Result<(), SyntaxFault>
         requires at { IsAt self.text.now tokens.old }
         ensures answered { Answers (λ _. tt) (then_word self.entry.bodies (left_in self.entry.text.now tokens.old)) (left_in self.entry.text.now tokens.new) result }
+        ensures words { OnOk result (words_left self.entry.text.now Beginning tokens.new ≡ words_left self.entry.text.now Beginning tokens.old) }
         ensures whole { OnOk result (SameEnd self.entry.text.now tokens.old tokens.new) }
         ensures at { Keeps self.entry.text.now tokens.new result }
     {
@@ -178,6 +185,7 @@ impl<'s> Parser<'s> {
     ) -> Result<Option<NodeId>, SyntaxFault>
         requires at { IsAt self.text.now tokens.old }
         ensures built { Parses OtherwiseAt self.entry.text.now (otherwise self.entry.bodies (command self.entry.bodies room)) builder.old builder.new tokens.old tokens.new result }
+        ensures words { OnOk result (SameWords self.entry.text.now Beginning builder.old tokens.old Within builder.new tokens.new) }
         ensures whole { OnOk result (SameEnd self.entry.text.now tokens.old tokens.new) }
         ensures at { Keeps self.entry.text.now tokens.new result }
     {

@@ -11,7 +11,7 @@ pub returns : goal.returns
 returns c =
     let text = c.args.script.now.text in
     let items = c.deref.result.now in
-    let same = ap (λ t. map (statement_of t) items) c.text.ensures ∙ ap (map (statement_of text)) c.deref.ensures.value ∙ c.in_ok-items.ensures in
+    let same = ap (λ t. map (statement_of t) items) c.text.ensures ∙ ap (map (statement_of text)) c.deref.ensures.value ∙ c.in_ok-items.ensures.statements in
     ok-then c.ask_in_items.result _ _
     (λ e. e ∙ ap (λ ss. follow_fronts c.args.asked.now (flat_map (asked_fronts (rules_in c.args.lookups.now)) ss)) same)
     c.ask_in_items.ensures

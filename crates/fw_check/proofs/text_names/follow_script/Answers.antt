@@ -11,7 +11,7 @@ pub returns-clause-foreseen : goal.returns-clause-foreseen
 returns-clause-foreseen c =
     let text = c.args.script.now.text in
     let items = c.deref-2.result.now in
-    let same = ap (λ t. map (statement_of t) items) c.text-2.ensures ∙ ap (map (statement_of text)) c.deref-2.ensures.value ∙ c.in_ok-items.ensures in
+    let same = ap (λ t. map (statement_of t) items) c.text-2.ensures ∙ ap (map (statement_of text)) c.deref-2.ensures.value ∙ c.in_ok-items.ensures.statements in
     ok-then c.gather_items.result _ _
     (λ e. e ∙ ap (λ ss. with_all (set_of c.args.gathered.now.foreseen) (flat_map (foreseen_names (rules_in c.args.lookups.now)) ss)) same)
     c.gather_items.ensures.foreseen
@@ -20,7 +20,7 @@ pub returns-clause-given : goal.returns-clause-given
 returns-clause-given c =
     let text = c.args.script.now.text in
     let items = c.deref-2.result.now in
-    let same = ap (λ t. map (statement_of t) items) c.text-2.ensures ∙ ap (map (statement_of text)) c.deref-2.ensures.value ∙ c.in_ok-items.ensures in
+    let same = ap (λ t. map (statement_of t) items) c.text-2.ensures ∙ ap (map (statement_of text)) c.deref-2.ensures.value ∙ c.in_ok-items.ensures.statements in
     ok-then c.gather_items.result _ _
     (λ e. e ∙ ap (λ ss. with_all (set_of c.args.gathered.now.given) (flat_map (given_names (rules_in c.args.lookups.now)) ss)) same)
     c.gather_items.ensures.given
@@ -29,7 +29,7 @@ pub returns-clause-written : goal.returns-clause-written
 returns-clause-written c =
     let text = c.args.script.now.text in
     let items = c.deref-2.result.now in
-    let same = ap (λ t. map (statement_of t) items) c.text-2.ensures ∙ ap (map (statement_of text)) c.deref-2.ensures.value ∙ c.in_ok-items.ensures in
+    let same = ap (λ t. map (statement_of t) items) c.text-2.ensures ∙ ap (map (statement_of text)) c.deref-2.ensures.value ∙ c.in_ok-items.ensures.statements in
     ok-then c.gather_items.result _ _
     (λ e. e ∙ ap (λ ss. with_all (set_of c.args.gathered.now.written) (flat_map (written_names (rules_in c.args.lookups.now)) ss)) same)
     c.gather_items.ensures.written

@@ -2,27 +2,27 @@ use Rattle.std.proofs.Common.{arith, sym, ◌∙◌}
 use Rattle.hush_words.proofs.TextLemmas.{blank-there, newline-there, semicolon-there, comment-there, joined-begins, joined-line-there, word_inside, no-operator}
 use Rattle.hush_words.proofs.reading.lexeme.Goals as goal
 
-pub returns-then-is_blank : goal.returns-then-is_blank
-returns-then-is_blank c =
+pub returns-then-is_blank-clause-reads : goal.returns-then-is_blank-clause-reads
+returns-then-is_blank-clause-reads c =
     (omega arith, omega (arith, c.requires.here.0), blank-there c.args.source.now c.args.at c.args.first c.requires.here (sym c.is_blank.ensures ∙ c.if-is_blank.true))
 
-pub returns-then-first-eq10 : goal.returns-then-first-eq10
-returns-then-first-eq10 c =
+pub returns-then-first-eq10-clause-reads : goal.returns-then-first-eq10-clause-reads
+returns-then-first-eq10-clause-reads c =
     (omega arith, omega (arith, c.requires.here.0), newline-there c.args.source.now c.args.at c.args.first c.requires.here c.if-first-eq10.true)
 
-pub returns-then-first-eq59 : goal.returns-then-first-eq59
-returns-then-first-eq59 c =
+pub returns-then-first-eq59-clause-reads : goal.returns-then-first-eq59-clause-reads
+returns-then-first-eq59-clause-reads c =
     (omega arith, omega (arith, c.requires.here.0), semicolon-there c.args.source.now c.args.at c.args.first c.requires.here c.if-first-eq59.true)
 
-pub returns-then-first-eq35 : goal.returns-then-first-eq35
-returns-then-first-eq35 c = (
+pub returns-then-first-eq35-clause-reads : goal.returns-then-first-eq35-clause-reads
+returns-then-first-eq35-clause-reads c = (
   omega (arith, c.place_of.ensures.0),
   c.place_of.ensures.1,
   comment-there c.args.source.now c.args.at c.args.first c.place_of.result c.requires.here c.if-first-eq35.true c.place_of.ensures,
 )
 
-pub returns-then-is_joined_line : goal.returns-then-is_joined_line
-returns-then-is_joined_line c =
+pub returns-then-is_joined_line-clause-reads : goal.returns-then-is_joined_line-clause-reads
+returns-then-is_joined_line-clause-reads c =
     let both = joined-begins c.args.source.now c.args.at (sym c.is_joined_line.ensures ∙ c.if-is_joined_line.true) in
     (omega arith, omega (arith, both.1.0), joined-line-there c.args.source.now c.args.at both.0 both.1)
 

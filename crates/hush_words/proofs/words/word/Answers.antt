@@ -30,8 +30,8 @@ loop-end-preserved c =
       behind = rw c.in-Some.is at c.in_ok-end.ensures.plain;
     }
 
-pub returns-in_err-end : goal.returns-in_err-end
-returns-in_err-end c =
+pub returns-in_err-end-clause-reads : goal.returns-in_err-end-clause-reads
+returns-in_err-end-clause-reads c =
     let source = c.args.source.now in
     let same : c.from_residual.result ≡ Err c.in_err-end.field-0.0 = search rules in
     let r = c.in_err-end.ensures.reads in
@@ -41,11 +41,14 @@ returns-in_err-end c =
       word-fault source c.args.start c.loop-end.at c.in_err-end.field-0.0 r.0 c.loop-end.invariant.ends r.2,
     )
 
-pub returns : goal.returns
-returns c =
+pub returns-clause-reads : goal.returns-clause-reads
+returns-clause-reads c =
     let source = c.args.source.now in
     let i = c.loop-end.invariant in
     let h = rw c.in_default.is at c.in_ok-end.ensures.reads in
     let w = word-read source c.args.start c.loop-end.at i.begun h.0 i.ends in
     rw c.new.ensures (word-token source c.args.start c.args.first c.requires.here c.requires.inside c.requires.no_comment c.requires.no_line
     c.loop-end.at (piece_atoms_left (range_bytes source c.args.start c.loop-end.at)) i.within w.0 w.1 h.1)
+
+pub returns-clause-starts : goal.returns-clause-starts
+returns-clause-starts c = ap (λ w. w.start) c.new.ensures

@@ -28,7 +28,7 @@ returns-in-Ok-clause-at c =
     let old = c.args.self.now in
     at-next text old c.read_next.new.self c.requires.at
     (c.read_next.ensures.placed ∙ sym (ap (λ o. drop 1 (placed_behind text o old.behind)) c.in-Ok.is))
-    (λ r. c.read_next.ensures.ends (subst (λ o. EndsBehind text o old.behind) c.in-Ok.is r))
+    (λ r. c.read_next.ensures.ends (subst (λ o. EndsBehind text o old.behind) c.in-Ok.is r).0)
 
 pub returns-in-Err-clause-placed : goal.returns-in-Err-clause-placed
 unfolding placed_in

@@ -34,7 +34,7 @@ pub returns-in-Ok-Some-clause-ends : goal.returns-in-Ok-Some-clause-ends
 unfolding EndsRight
 returns-in-Ok-Some-clause-ends c = λ e.
     let read = rw c.in-Ok-Some.field-0-is at c.in-Ok-Some.ensures in
-    sym read.1 ∙ e
+    (sym read.1 ∙ e, read.5)
 
 pub returns-in-Ok-None-clause-placed : goal.returns-in-Ok-None-clause-placed
 unfolding placed_in

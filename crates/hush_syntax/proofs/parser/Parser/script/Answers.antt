@@ -1,5 +1,6 @@
-use Rattle.std.proofs.Common.{sym, ◌∙◌, ap}
+use Rattle.std.proofs.Common.{◌++◌, map, sym, ◌∙◌, ap}
 use Rattle.std.proofs.lemmas.Result.{err_from_is_err_and}
+use Rattle.hush_syntax.specs.CommandWords.{Beginning, word_placed, words_from}
 use Rattle.hush_syntax.specs.Reading.{script_in}
 use Rattle.hush_syntax.proofs.Calls.{refuses, refuses_always}
 use Rattle.hush_syntax.proofs.Told.{read_to_end, read_to_fault, read_none}
@@ -29,3 +30,8 @@ pub returns-in_err-finish-clause-first : goal.returns-in_err-finish-clause-first
 returns-in_err-finish-clause-first c =
     let p = err_from_is_err_and c.from_residual-in_err-finish.result c.from_residual-in_err-finish.ensures.1 in
     rw (p.1, p.2) (c.in_err-finish.ensures.first c.args.self.text.now c.in_ok-root.ensures.at)
+
+pub returns-clause-words : goal.returns-clause-words
+returns-clause-words c =
+    let text = c.args.self.text.now in
+    c.in_ok-root.ensures.words ∙ ap (λ ps. map (word_placed text) c.args.builder.now.table.words.items ++ words_from text Beginning ps) c.of-tokens.ensures.placed
