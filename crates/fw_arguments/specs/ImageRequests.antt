@@ -11,7 +11,7 @@ use Rattle.fw_arguments.specs.ImageSizes.{size_in}
 use Rattle.fw_arguments.specs.Values.{first_or, is_given, value_or}
 use Rattle.fw_arguments.specs.Words.{either_order, order_by, source_in}
 use Rattle.fw_arguments.specs.declared.image_request.ImageRequest as requests
-use Rattle.fw_arguments.specs.declared.table.TheConstants.{ONE_COPY}
+use Rattle.fw_arguments.specs.declared.image_options.TheConstants.{ONE_COPY}
 
 -- the text with its variables; one copy or two, the size and the byte order of each; whether both hold the variables; and
 -- the file that it is written into, if it isn't standard output

@@ -9,7 +9,7 @@ use Rattle.envimg_core.specs.declared.geometry.Order.{Order}
 use Rattle.std.specs.List.{find}
 use Rattle.fw_arguments.specs.Table.{Called, is_called, seen}
 use Rattle.fw_arguments.specs.declared.program_name.TheConstants.{SUBCOMMANDS}
-use Rattle.fw_arguments.specs.declared.table.TheConstants.{FW_PRINTENV, FW_SETENV}
+use Rattle.fw_arguments.specs.declared.command_rows.TheConstants.{FW_PRINTENV, FW_SETENV}
 use Rattle.fw_arguments.specs.Words.{app_of_row, fwenv, fwenv_with, order_by, source_in}
 use Rattle.fw_arguments.specs.declared.program_name.ProgramName.{ProgramName}
 use Rattle.fw_arguments.specs.declared.program_name.ProgramName.TheVariants.{Fwenv, FwenvWith, Printenv, Setenv}

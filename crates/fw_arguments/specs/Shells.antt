@@ -5,7 +5,7 @@ use Rattle.clap.specs.Words.{Row, Text}
 use Rattle.hush_commands.specs.declared.shell.Shell.{Shell}
 use Rattle.hush_commands.specs.declared.shell.Shell.TheVariants.{Strict, Board}
 use Rattle.fw_arguments.specs.Values.{first_or, value_or}
-use Rattle.fw_arguments.specs.declared.table.TheConstants.{BOARD_DEPTH, BOARD_SHELL, STRICT_DEPTH, STRICT_SHELL}
+use Rattle.fw_arguments.specs.declared.run_options.TheConstants.{BOARD_DEPTH, BOARD_SHELL, STRICT_DEPTH, STRICT_SHELL}
 
 -- the names of the shells
 abbrev pub board_shell : Text

@@ -3,8 +3,7 @@ use Rattle.std.specs.Prelude.{ℕ, ◌+◌, ◌||◌, Bool, List, filter, length
 use Rattle.std.specs.Str.{bytes_eq}
 use Rattle.clap.specs.Words.{Row, Text}
 use Rattle.fw_arguments.specs.Values.{all_values}
-use Rattle.fw_arguments.specs.declared.standard_input.TheConstants.{TEXTS}
-use Rattle.fw_arguments.specs.declared.table.TheConstants.{STANDARD_INPUT}
+use Rattle.fw_arguments.specs.declared.standard_input.TheConstants.{STANDARD_INPUT, TEXTS}
 
 -- the path that is standard input
 abbrev pub is_dash : Text → Bool

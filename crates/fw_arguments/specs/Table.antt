@@ -10,7 +10,7 @@ use Rattle.fw_arguments.specs.declared.table.Names.TheVariants.{Operand, Letter,
 use Rattle.fw_arguments.specs.declared.table.OptionRow.{OptionRow}
 use Rattle.fw_arguments.specs.declared.table.Takes.{Takes}
 use Rattle.fw_arguments.specs.declared.table.Takes.TheVariants.{Nothing, Version, One, Wanted, Any, Many, Usual}
-use Rattle.fw_arguments.specs.declared.table.TheConstants.{PRINTENV, SETENV, IMPORT, EXPORT, RESTORE, STATUS, FIND, IMAGE, RUN, BOOT, CHECK, SESSION}
+use Rattle.fw_arguments.specs.declared.command_rows.TheConstants.{PRINTENV, SETENV, IMPORT, EXPORT, RESTORE, STATUS, FIND, IMAGE, RUN, BOOT, CHECK, SESSION}
 
 -- a row with plain texts, and a command's
 pub record Row : Type 0 where

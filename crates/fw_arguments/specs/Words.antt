@@ -21,7 +21,9 @@ use Rattle.fw_arguments.specs.declared.table.Names.{Names}
 use Rattle.fw_arguments.specs.declared.table.Names.TheVariants.{Operand, Letter, Long, Both, More}
 use Rattle.fw_arguments.specs.declared.table.Takes.{Takes}
 use Rattle.fw_arguments.specs.declared.table.Takes.TheVariants.{Nothing, Version, One, Wanted, Any, Many, Usual}
-use Rattle.fw_arguments.specs.declared.table.TheConstants.{FWENV, USUAL_STEPS, USUAL_WORD, USUAL_OUTPUT, USUAL_STORED, USUAL_WAYS, USUAL_SIZE}
+use Rattle.fw_arguments.specs.declared.command_rows.TheConstants.{FWENV}
+use Rattle.fw_arguments.specs.declared.run_options.TheConstants.{USUAL_STEPS, USUAL_WORD, USUAL_OUTPUT, USUAL_SIZE}
+use Rattle.fw_arguments.specs.declared.boot_options.TheConstants.{USUAL_STORED, USUAL_WAYS}
 use Rattle.envimg_core.specs.declared.geometry.Order.{Order}
 use Rattle.envimg_core.specs.declared.geometry.Order.TheVariants.{Little, Big}
 

@@ -5,8 +5,8 @@ ghost use Rattle.fw_arguments.specs.ProgramNames.{called_in};
 ghost use Rattle.fw_arguments.specs.Values.{first_or, given_by, is_given};
 ghost use Rattle.fw_arguments.specs.Words.{either_order, order_in};
 
+use crate::copy_options::BIG_ENDIAN;
 use crate::program_name::ProgramName;
-use crate::table::BIG_ENDIAN;
 use clap::ArgMatches;
 use clap::parser::ValueSource;
 use envimg_core::Order;

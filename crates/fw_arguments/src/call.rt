@@ -5,10 +5,10 @@ ghost use Rattle.fw_arguments.specs.Calls.{call_of, call_view, defaults_of, defa
 ghost use Rattle.fw_arguments.specs.WordFaults.{word_seen};
 
 use crate::arguments::{chosen_order, either_order, first, first_or, is_given};
+use crate::copy_options::CONFIG_PATH;
 use crate::given_text::TextForm;
 use crate::image_size::{read_image, whole_text};
 use crate::job::{Job, read_job};
-use crate::table::CONFIG_PATH;
 use crate::wanted_copy::{WantedCopy, read_wanted_copy};
 use crate::word_fault::WordFault;
 use clap::ArgMatches;

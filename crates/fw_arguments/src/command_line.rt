@@ -7,8 +7,9 @@ ghost use Rattle.fw_arguments.specs.ProgramNames.{app_of_name, called_in, called
 ghost use Rattle.fw_arguments.specs.Words.{IsTool, app_of_row, order_in, rule_of_row, with_called, with_names, with_row, with_takes};
 ghost use Rattle.fw_arguments.specs.Table.{called_view, names_view, row_view, takes_view};
 
+use crate::command_rows::{FW_PRINTENV, FW_SETENV, FWENV};
 use crate::program_name::{ProgramName, SUBCOMMANDS, Subcommand};
-use crate::table::{Called, FW_PRINTENV, FW_SETENV, FWENV, Names, Row, Takes};
+use crate::table::{Called, Names, Row, Takes};
 use clap::{Arg, ArgAction, ArgMatches, Command, Error};
 use std::alloc::{AllocError, Global};
 use std::convert::AsStr;

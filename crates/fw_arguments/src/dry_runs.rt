@@ -9,8 +9,8 @@ use crate::argument_texts::{
     BAD_DEPTH, BAD_OUTPUT, BAD_STEPS, BAD_WORD, INVALID_VALUE, NO_SCRIPT, SEVERAL_SCRIPTS,
 };
 use crate::arguments::{first, first_or, is_given, values};
+use crate::run_options::{BOARD_SHELL, STRICT_SHELL, USUAL_OUTPUT, USUAL_STEPS, USUAL_WORD};
 use crate::shells::{read_shell, usual_depth};
-use crate::table::{BOARD_SHELL, STRICT_SHELL, USUAL_OUTPUT, USUAL_STEPS, USUAL_WORD};
 use crate::word_fault::WordFault;
 use clap::ArgMatches;
 use hush_commands::Shell;

@@ -6,7 +6,7 @@ ghost use Rattle.fw_arguments.specs.WordFaults.{word_seen};
 
 use crate::argument_texts::{BAD_FORMAT, INVALID_VALUE};
 use crate::arguments::first_or;
-use crate::table::{GCC_FORMAT, JSON_FORMAT, TEXT_FORMAT};
+use crate::check_options::{GCC_FORMAT, JSON_FORMAT, TEXT_FORMAT};
 use crate::word_fault::WordFault;
 use clap::ArgMatches;
 use finding_kinds::Format;

@@ -10,8 +10,8 @@ use crate::argument_texts::{
 };
 use crate::arguments::{chosen_order, either_order, first, first_or, is_given};
 use crate::given_text::{GivenText, given_text, gives_two};
+use crate::image_options::ONE_COPY;
 use crate::image_size::read_size;
-use crate::table::ONE_COPY;
 use crate::word_fault::WordFault;
 use clap::ArgMatches;
 use envimg_core::{Layout, Order};

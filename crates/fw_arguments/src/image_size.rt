@@ -11,7 +11,7 @@ use crate::argument_texts::{
 };
 use crate::arguments::{first_or, is_given};
 use crate::given_text::{GivenText, given_text, gives_two};
-use crate::table::USUAL_SIZE;
+use crate::run_options::USUAL_SIZE;
 use crate::word_fault::WordFault;
 use clap::ArgMatches;
 use envimg_core::SIZE_MAX;

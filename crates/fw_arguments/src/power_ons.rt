@@ -7,9 +7,10 @@ ghost use Rattle.fw_arguments.specs.WordFaults.{word_seen};
 
 use crate::argument_texts::{BAD_STORED, BAD_WAYS, MANY_SCRIPTS};
 use crate::arguments::{is_given, values};
+use crate::boot_options::{USUAL_STORED, USUAL_WAYS};
 use crate::dry_runs::{DryRun, dry_run_within, number, read_limits};
+use crate::run_options::BOARD_SHELL;
 use crate::shells::read_shell;
-use crate::table::{BOARD_SHELL, USUAL_STORED, USUAL_WAYS};
 use crate::word_fault::WordFault;
 use clap::ArgMatches;
 use hush_commands::Shell;

@@ -5,10 +5,10 @@ ghost use Rattle.fw_arguments.specs.ProgramNames.{fwenv_by, is_named, name_by, n
 ghost use Rattle.fw_arguments.specs.Table.{called_view, is_called, row_of};
 ghost use Rattle.std.specs.List.{find};
 
-use crate::table::{
-    BOOT, CHECK, Called, EXPORT, FIND, IMAGE, IMPORT, PRINTENV, RESTORE, RUN, SESSION, SETENV,
-    STATUS,
+use crate::command_rows::{
+    BOOT, CHECK, EXPORT, FIND, IMAGE, IMPORT, PRINTENV, RESTORE, RUN, SESSION, SETENV, STATUS,
 };
+use crate::table::Called;
 use std::convert::AsStr;
 
 /// A name under which the program is called.

@@ -6,7 +6,7 @@ ghost use Rattle.fw_arguments.specs.WordFaults.{word_seen};
 
 use crate::argument_texts::{BAD_SHELL, INVALID_VALUE};
 use crate::arguments::first_or;
-use crate::table::{BOARD_DEPTH, BOARD_SHELL, STRICT_DEPTH, STRICT_SHELL};
+use crate::run_options::{BOARD_DEPTH, BOARD_SHELL, STRICT_DEPTH, STRICT_SHELL};
 use crate::word_fault::WordFault;
 use clap::ArgMatches;
 use hush_commands::Shell;

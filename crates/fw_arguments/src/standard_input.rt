@@ -5,8 +5,10 @@ ghost use Rattle.fw_arguments.specs.StandardInput.{dashes, is_dash, is_input, re
 ghost use Rattle.fw_arguments.specs.Values.{all_values};
 
 use crate::arguments::values;
-use crate::table::STANDARD_INPUT;
 use clap::ArgMatches;
+
+/// The path of a text that is standard input.
+pub const STANDARD_INPUT: &str = "-";
 
 /// The options and the operands that name a text.
 pub(crate) const TEXTS: [&str; 10] = [
