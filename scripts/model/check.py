@@ -11,7 +11,7 @@ from dataclasses import dataclass, field
 
 from model.board_file import Reply, lacks, names_of
 from model.calculations import COMPARISONS, OF_NUMBERS
-from model.grammar import RESERVED, parse
+from model.grammar import RESERVED, NoScript, parse
 from model.quoting import APOSTROPHE, BACKSLASH, JOINED, LOOSE, UNDERSCORED, quoting
 from model.script_run import SENTENCES, line_and_column
 from model.shells import STRICT
@@ -392,7 +392,8 @@ def first_backslash(text):
 
 def no_script(fault):
     kind, place = fault.args
-    return [Finding(place, b"syntax", NO_SCRIPT % (SENTENCES[kind], kind.encode()))]
+    said = fault.lacking if isinstance(fault, NoScript) else SENTENCES[kind]
+    return [Finding(place, b"syntax", NO_SCRIPT % (said, kind.encode()))]
 
 
 # The kinds of findings in a command

@@ -16,6 +16,7 @@ mod TypeLemmas
 mod VisitLemmas
 pub mod Rows
 pub mod DifferenceRows
+pub mod FaultRows
 mod LineLemmas
 mod AskLemmas
 mod EntryPlaceLemmas

@@ -5,18 +5,18 @@ use Rattle.std.specs.declared.alloc.Global.{Global}
 use Rattle.std.specs.List.{flat_map, fold}
 use Rattle.std.proofs.lemmas.Grind.{flat_map-append}
 use Rattle.envimg_core.specs.Environment.{Environment}
-use Rattle.hush_syntax.specs.FaultPlaces.{IsFaultOf}
+use Rattle.hush_syntax.specs.Halts.{halt_in}
 use Rattle.hush_syntax.specs.Reading.{read_in}
+use Rattle.hush_syntax.specs.declared.nodes.Bodies.{Bodies}
 use Rattle.hush_syntax.specs.declared.syntax_fault.FaultKind.TheVariants.{Memory}
 use Rattle.hush_syntax.specs.declared.syntax_fault.SyntaxFault.{SyntaxFault}
 use Rattle.hush_commands.specs.Hardware.{Hardware}
 use Rattle.hush_run.specs.Meaning.{bodies_of}
-use Rattle.finding_kinds.specs.declared.kinds.FindingKind.TheVariants as kind
 use Rattle.fw_check.specs.Checking.{AreFollowed, AreVisited, Faulty, Reports, Script, Visit, after_visit, follow_texts, in_all, in_read, known_after, origin_in, reading_findings, script_in}
 use Rattle.fw_check.specs.EntryPlaces.{EnvironmentText}
 use Rattle.fw_check.specs.Called.{Given, in_answers}
-use Rattle.fw_check.specs.ReportLines.{Report, found_at, with_findings, with_script}
-use Rattle.fw_check.specs.Findings.{fault_sentence, return_findings, stored_findings}
+use Rattle.fw_check.specs.ReportLines.{Report, with_findings, with_script}
+use Rattle.fw_check.specs.Findings.{return_findings, stored_findings}
 use Rattle.fw_check.specs.Knowing.{Known}
 use Rattle.fw_check.specs.Following.{Followed, begin_all, begin_from, follow_fronts, is_among}
 use Rattle.fw_check.specs.Found.{Found, found_more}
@@ -24,7 +24,7 @@ use Rattle.fw_check.specs.Origins.{Origin}
 use Rattle.fw_check.specs.Literals.{Front}
 use Rattle.fw_check.specs.NameSets.{no_names, with_all}
 use Rattle.fw_check.specs.Naming.{foreseen_in, given_in, run_in, written_in}
-use Rattle.fw_check.specs.Reports.{GoesOn, Reads, ReadsItems}
+use Rattle.fw_check.specs.Reports.{GoesOn, Reads, ReadsItems, TellsHalt}
 use Rattle.fw_check.proofs.FoundLemmas.{found-append}
 use Rattle.fw_check.proofs.FollowLemmas.{fronts-env, fronts-longer}
 use Rattle.fw_check.proofs.NameLemmas.{all-among, with-append}
@@ -35,12 +35,12 @@ module _ (known : Option Known) (given : Given) (asked : Bool) where
   read-script (Ok u) source text old new same h = subst (λ t. Reads known given asked t old new) same (Script h.0, h.1, h.2)
   read-script (Err e) source text old new same h = tt
 
-  pub read-fault : {E : Type 0} (r : Result (Unit {0}) E) (source text : List ℕ) (fault : SyntaxFault) (old new : Found) → source ≡ text → (fault.kind ≢ Memory → read_in (bodies_of given.shell) source ≡ None) →
-      (fault.kind ≢ Memory → IsFaultOf source fault) →
-      OnOk r ((fault.kind ≢ Memory) × (new ≡ found_more old (found_at fault.place kind.Syntax (fault_sentence fault.kind) ∷ []))) → OnOk r (Reads known given asked text old new)
-  read-fault (Ok u) source text fault old new same unread first h =
-      (Faulty fault, (h.0, ap (read_in (bodies_of given.shell)) (sym same) ∙ unread h.0, subst (λ t. IsFaultOf t fault) same (first h.0)), h.1)
-  read-fault (Err e) source text fault old new same unread first h = tt
+  pub read-fault : {E : Type 0} (r : Result (Unit {0}) E) (source text : List ℕ) (bodies : Bodies) (fault : SyntaxFault) (old new : Found) → source ≡ text → bodies ≡ bodies_of given.shell →
+      (fault.kind ≢ Memory → read_in bodies source ≡ None) → OnOk r ((fault.kind ≢ Memory) × TellsHalt bodies text old new) → OnOk r (Reads known given asked text old new)
+  read-fault (Ok u) source text bodies fault old new same by unread h =
+      let unread_text = subst (λ t. read_in bodies t ≡ None) same (unread h.0) in
+      (Faulty h.1.0, subst (λ b. (read_in b text ≡ None) × (halt_in b text ≡ Some h.1.0)) by (unread_text, h.1.1), h.1.2)
+  read-fault (Err e) source text bodies fault old new same by unread h = tt
 
   pub script-checked : (origin : Origin) (text : List ℕ) (report counted after : Report) (first second third fourth : Found) → counted ≡ with_script report →
       first ≡ record { origin = origin; text = text; report = counted } → second ≡ found_more first (return_findings first.text) →

@@ -1,5 +1,5 @@
 -- What a check of an environment prints (docs/check.md).
-use Rattle.std.specs.Prelude.{◌≡◌, ◌≢◌, ℕ, ◌==◌, suc, ◌&&◌, ◌||◌, Bool, true, false, not, List, [], ◌∷◌, ◌++◌, map, fold, slice_get, codes, Option, Some, None, unwrap_or, if◌then◌else◌}
+use Rattle.std.specs.Prelude.{◌≡◌, ℕ, ◌==◌, suc, ◌&&◌, ◌||◌, Bool, true, false, not, List, [], ◌∷◌, ◌++◌, map, fold, slice_get, codes, Option, Some, None, unwrap_or, if◌then◌else◌}
 use Rattle.std.specs.List.{AllByRecursion, flat_map, list_any}
 use Rattle.std.specs.FinMap.{entries, get}
 use Rattle.finding_kinds.specs.Choices.{Choice}
@@ -7,11 +7,10 @@ use Rattle.finding_kinds.specs.declared.choice.Format.{Format}
 use Rattle.finding_kinds.specs.declared.choice.Format.TheVariants as format
 use Rattle.finding_kinds.specs.declared.kinds.FindingKind.TheVariants as kind
 use Rattle.hush_words.specs.Parts.{written}
-use Rattle.hush_syntax.specs.FaultPlaces.{IsFaultOf}
+use Rattle.hush_syntax.specs.Halts.{halt_in}
 use Rattle.hush_syntax.specs.Reading.{read_in}
 use Rattle.hush_syntax.specs.declared.nodes.Bodies.{Bodies}
-use Rattle.hush_syntax.specs.declared.syntax_fault.FaultKind.TheVariants.{Memory}
-use Rattle.hush_syntax.specs.declared.syntax_fault.SyntaxFault.{SyntaxFault}
+use Rattle.hush_syntax.specs.declared.positions.Halt.{Halt}
 use Rattle.hush_run.specs.Meaning.{bodies_of}
 use Rattle.envimg_core.specs.Environment.{Environment, Pair}
 use Rattle.envvars_core.specs.Attributes.{attributes}
@@ -29,7 +28,8 @@ use Rattle.fw_check.specs.Literals.{Front}
 use Rattle.fw_check.specs.Naming.{asked_in, foreseen_in, given_in, run_in, written_in}
 use Rattle.fw_check.specs.EntryPlaces.{EnvironmentText}
 use Rattle.fw_check.specs.ReportLines.{Finding, found_at, Report, no_lines, report_end, with_alone, with_findings, with_placed, with_script}
-use Rattle.fw_check.specs.Findings.{fault_sentence, return_findings, item_findings, stored_findings}
+use Rattle.fw_check.specs.FaultSentences.{halt_sentence}
+use Rattle.fw_check.specs.Findings.{return_findings, item_findings, stored_findings}
 use Rattle.fw_check.specs.Knowing.{Known, is_recut, names_by, rereads}
 use Rattle.fw_check.specs.Lines.{Variable, Whole}
 use Rattle.fw_check.specs.Origins.{Origin, origin_of, subject_of, value_place}
@@ -38,19 +38,17 @@ use Rattle.fw_check.specs.Summaries.{summary}
 
 -- ---- one script
 
--- what a text is read as: its first fault, or its statements
+-- what a text is read as: where it stops being a script, or its statements
 pub data Reading : Type 0 where
-  Faulty : SyntaxFault → Reading
+  Faulty : Halt → Reading
   Script : List Item → Reading
 
--- a text with a fault isn't a script, and has a fault of this kind at this place; which of its tokens is not
--- expected, and whether such a token is before the fault of a word, is not stated here
 abbrev pub IsReading : Bodies → (asked : Bool) → List ℕ → Reading → Type 0
-IsReading bodies asked text (Faulty fault) = (fault.kind ≢ Memory) × (read_in bodies text ≡ None) × IsFaultOf text fault
+IsReading bodies asked text (Faulty halt) = (read_in bodies text ≡ None) × (halt_in bodies text ≡ Some halt)
 IsReading bodies asked text (Script items) = AreItemsOf bodies asked text items
 
 abbrev pub reading_findings : Option Known → Given → List ℕ → Reading → List Finding
-reading_findings known given text (Faulty fault) = found_at fault.place kind.Syntax (fault_sentence fault.kind) ∷ []
+reading_findings known given text (Faulty halt) = found_at halt.fault.place kind.Syntax (halt_sentence text halt) ∷ []
 reading_findings known given text (Script items) = quoting_findings text ++ flat_map (item_findings known given (written text)) items
 
 -- the first carriage return, the first backslash of a variable's script, and what is found from the start of the script on

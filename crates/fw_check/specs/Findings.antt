@@ -6,8 +6,6 @@ use Rattle.hush_words.specs.Parts.{Written, word_atoms}
 use Rattle.hush_words.specs.Words.{Atom}
 use Rattle.hush_words.specs.declared.parts.Word.{Word}
 use Rattle.hush_syntax.specs.Trees.{words_in}
-use Rattle.hush_syntax.specs.declared.syntax_fault.FaultKind.{FaultKind}
-use Rattle.hush_syntax.specs.declared.syntax_fault.FaultKind.TheVariants as fault
 use Rattle.hush_commands.specs.declared.shell.Shell.{Shell}
 use Rattle.hush_commands.specs.declared.shell.Shell.TheVariants.{Strict, Board}
 use Rattle.finding_kinds.specs.declared.kinds.FindingKind.{FindingKind}
@@ -23,20 +21,6 @@ use Rattle.fw_check.specs.declared.items.Item.TheVariants as item
 use Rattle.fw_check.specs.declared.settings.Setting.{Setting}
 use Rattle.fw_check.specs.ReportLines.{Finding, found_at}
 use Rattle.fw_check.specs.CommandFindings.{arguments_foreign, command_findings, empty_findings, exit_if, foreign_findings, many_findings, misuse_findings, operator_findings, run_findings}
-
--- ---- texts that aren't scripts
-
-abbrev pub fault_sentence : FaultKind → List ℕ
-fault_sentence fault.Quote = codes "a quote is not closed (Quote)"
-fault_sentence fault.Backslash = codes "the text ends with a backslash (Backslash)"
-fault_sentence fault.Substitution = codes "not a substitution of this shell: ${NAME}, $NAME or $? (Substitution)"
-fault_sentence fault.Operator = codes "a single & or |, which this shell does not have (Operator)"
-fault_sentence fault.Unexpected = codes "not expected here (Unexpected)"
-fault_sentence fault.Missing = codes "the text ends where more has to follow (Missing)"
-fault_sentence fault.Nest = codes "more than 64 commands inside one another (Nest)"
-fault_sentence fault.Assignment = codes "a word after an assignment (Assignment)"
-fault_sentence fault.Nul = codes "a byte 0 (Nul)"
-fault_sentence fault.Memory = codes "out of memory (Memory)"
 
 -- ---- carriage returns
 

@@ -21,6 +21,7 @@ pub mod Origins
 pub mod ReportLines
 pub mod CommandFindings
 pub mod Findings
+pub mod FaultSentences
 pub mod Quoting
 pub mod Summaries
 pub mod Checking

@@ -3,7 +3,7 @@ ghost use Rattle.std.specs.Prelude.{◌≡◌, ◌++◌, [], ◌∷◌, None, On
 ghost use Rattle.finding_kinds.specs.declared.kinds.FindingKind.TheVariants as kind;
 ghost use Rattle.finding_kinds.specs.Choices.{choice_view};
 ghost use Rattle.fw_check.specs.ReportLines.{counted, found_at, has_line, no_lines, noted, with_alone, with_placed, with_script};
-ghost use Rattle.fw_check.specs.Findings.{fault_sentence, first_findings, return_findings, stored_findings};
+ghost use Rattle.fw_check.specs.Findings.{first_findings, return_findings, stored_findings};
 ghost use Rattle.fw_check.specs.Found.{found_more};
 ghost use Rattle.fw_check.specs.JsonLines.{line_in};
 ghost use Rattle.fw_check.specs.Lines.{line_view, subject_view};
@@ -17,7 +17,6 @@ use crate::lines::{Line, Subject, push_line};
 use crate::origins::Origin;
 use finding_kinds::{Choice, FindingKind, Severity};
 use fw_engines::{Place, Pointer};
-use hush_syntax::{FaultKind, SyntaxFault};
 use memchr::memchr;
 use std::alloc::{AllocError, Global};
 use std::marker::Model;
@@ -264,20 +263,6 @@ impl<'s, 'c> Findings<'s, 'c> {
         }
     }
 
-    /// Adds the fault of a text that isn't a script.
-    pub(crate) fn add_fault(&mut self, fault: SyntaxFault) -> Result<(), AllocError>
-        ensures { OnOk result
-            (self.new ≡ found_more self.old (found_at fault.place kind.Syntax (fault_sentence fault.kind) ∷ [])) }
-    {
-        self.add(
-            fault.place,
-            FindingKind::Syntax,
-            fault_sentence(fault.kind),
-            b"",
-            b"",
-        )
-    }
-
     /// Adds the first carriage return, if there is one.
     pub(crate) fn add_return(&mut self) -> Result<(), AllocError>
         ensures { OnOk result (self.new ≡ found_more self.old (return_findings self.old.text)) }
@@ -323,24 +308,4 @@ pub(crate) fn push_three(
     text.extend_from_slice(before)?;
     text.extend_from_slice(name)?;
     text.extend_from_slice(after)
-}
-
-/// What keeps a text from being a script.
-fn fault_sentence(kind: FaultKind) -> &'static [u8]
-    ensures { result.now ≡ fault_sentence kind }
-{
-    match kind {
-        FaultKind::Quote => b"a quote is not closed (Quote)",
-        FaultKind::Backslash => b"the text ends with a backslash (Backslash)",
-        FaultKind::Substitution => {
-            b"not a substitution of this shell: ${NAME}, $NAME or $? (Substitution)"
-        }
-        FaultKind::Operator => b"a single & or |, which this shell does not have (Operator)",
-        FaultKind::Unexpected => b"not expected here (Unexpected)",
-        FaultKind::Missing => b"the text ends where more has to follow (Missing)",
-        FaultKind::Nest => b"more than 64 commands inside one another (Nest)",
-        FaultKind::Assignment => b"a word after an assignment (Assignment)",
-        FaultKind::Nul => b"a byte 0 (Nul)",
-        FaultKind::Memory => b"out of memory (Memory)",
-    }
 }

@@ -2,7 +2,7 @@
 //! names on, as lines. docs/check.md states the rules.
 //!
 //! To read in this order: settings, coming_words, items, literals, name_set, substitutions, commands, rules, lookups, constants; excerpts, lines, json_lines, entry_places,
-//! origins, findings, summary; operators, foreign, calculations, operands, word_pairs, misuse, undefined_names, differences, empty_values, quoting, reread, statuses, command_names, run_targets, statements, script_check; followed, sorted_names, menu,
+//! origins, findings, summary; fault_sentences; operators, foreign, calculations, operands, word_pairs, misuse, undefined_names, differences, empty_values, quoting, reread, statuses, command_names, run_targets, statements, script_check; followed, sorted_names, menu,
 //! script_values, following, run_names, foreseen, written, gives, text_names; starts, reading, asking, typed_values, visits; file_checks.
 #![tactic(auto)]
 
@@ -16,6 +16,7 @@ mod differences;
 mod empty_values;
 mod entry_places;
 mod excerpts;
+mod fault_sentences;
 mod file_checks;
 mod findings;
 mod followed;

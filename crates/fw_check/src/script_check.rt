@@ -1,5 +1,6 @@
 //! What is found in a script, and what is printed of a report.
-ghost use Rattle.std.specs.Prelude.{◌≡◌, ◌≢◌, ◌⊎◌, [], ◌∷◌, ◌++◌, Some, IfOk, OnOk, if◌then◌else◌};
+ghost use Rattle.std.specs.Prelude.{◌≡◌, ◌≢◌, ◌⊎◌, [], ◌∷◌, ◌++◌, IfOk, IsSome, OnOk, Some, if◌then◌else◌};
+ghost use Rattle.hush_syntax.specs.Halts.{fault_in};
 ghost use Rattle.hush_syntax.specs.Grammar.{SpellsIn};
 ghost use Rattle.hush_syntax.specs.Scripts.{source_of, tree_of};
 ghost use Rattle.hush_run.specs.Meaning.{bodies_of};
@@ -9,12 +10,13 @@ ghost use Rattle.fw_engines.specs.Tool.{Prints};
 ghost use Rattle.finding_kinds.specs.declared.kinds.FindingKind.TheVariants as finding;
 ghost use Rattle.fw_check.specs.Checking.{LacksMemory, PrintsReport, errors_start, is_failed, output_end};
 ghost use Rattle.fw_check.specs.ReportLines.{found_at, report_end};
-ghost use Rattle.fw_check.specs.Findings.{fault_sentence};
+ghost use Rattle.fw_check.specs.FaultSentences.{halt_sentence};
 ghost use Rattle.fw_check.specs.Found.{found_more};
 ghost use Rattle.fw_check.specs.Looking.{known_in, rules_in};
 ghost use Rattle.fw_check.specs.Origins.{origin_view};
-ghost use Rattle.fw_check.specs.Reports.{GoesOn, Reads, ReadsItems};
+ghost use Rattle.fw_check.specs.Reports.{GoesOn, Reads, ReadsItems, TellsHalt};
 
+use crate::fault_sentences::halt_sentence;
 use crate::findings::{Findings, Report};
 use crate::items::items_of;
 use crate::lookups::Lookups;
@@ -22,11 +24,11 @@ use crate::origins::Origin;
 use crate::quoting::check_quoting;
 use crate::statements::check_items;
 use crate::summary::summary;
-use finding_kinds::Format;
+use finding_kinds::{FindingKind, Format};
 use fw_engines::streams::write_two;
 use fw_engines::{StreamFault, ToolEnd};
 use hush_run::bodies_of;
-use hush_syntax::{FaultKind, Script, SyntaxFault};
+use hush_syntax::{Bodies, FaultKind, Halt, Script, SyntaxFault, Text};
 use std::alloc::{AllocError, Global};
 use std::io::Write;
 
@@ -164,9 +166,10 @@ fn check_reading(
     ensures { OnOk result (Reads (known_in lookups.now) (rules_in lookups.now) asked text.now found.old found.new) }
 {
     let source = Vec::from_slice(lookups.alloc, text)?;
-    match Script::parse_in(lookups.alloc, source, bodies_of(lookups.rules.shell)) {
+    let bodies = bodies_of(lookups.rules.shell);
+    match Script::parse_in(lookups.alloc, source, bodies) {
         Ok(script) => check_parsed(lookups, asked, &script, found),
-        Err(fault) => add_fault(fault, found),
+        Err(fault) => add_fault(lookups.alloc, bodies, fault, text, found),
     }
 }
 
@@ -186,13 +189,63 @@ fn check_parsed(
     check_items(lookups, script.text(), &items, found)
 }
 
-/// Adds the fault of a text that isn't a script; running out of memory is no finding.
-fn add_fault(fault: SyntaxFault, found: &mut Findings<'_, '_>) -> Result<(), AllocError>
-    ensures { OnOk result ((fault.kind ≢ kind.Memory) × (found.new ≡ found_more found.old
-        (found_at fault.place finding.Syntax (fault_sentence fault.kind) ∷ []))) }
+/// Adds where and why a text isn't a script, by its first fault; running out of memory is no finding.
+fn add_fault(
+    alloc: Global,
+    bodies: Bodies,
+    fault: SyntaxFault,
+    text: &[u8],
+    found: &mut Findings<'_, '_>,
+) -> Result<(), AllocError>
+    requires { fault.kind ≢ kind.Memory → fault_in bodies text.now ≡ Some fault }
+    ensures { OnOk result ((fault.kind ≢ kind.Memory) × TellsHalt bodies text.now found.old found.new) }
 {
     match fault.kind {
         FaultKind::Memory => Err(AllocError),
-        _ => found.add_fault(fault),
+        _ => add_first_fault(alloc, bodies, text, found),
     }
+}
+
+/// The same of a text that has one.
+fn add_first_fault(
+    alloc: Global,
+    bodies: Bodies,
+    text: &[u8],
+    found: &mut Findings<'_, '_>,
+) -> Result<(), AllocError>
+    requires { IsSome (fault_in bodies text.now) }
+    ensures { OnOk result (TellsHalt bodies text.now found.old found.new) }
+{
+    let source = Text::new(Vec::from_slice(alloc, text)?)?;
+    add_halt(alloc, bodies, &source, found)
+}
+
+/// Adds where and why such a text stops being a script.
+fn add_halt(
+    alloc: Global,
+    bodies: Bodies,
+    text: &Text,
+    found: &mut Findings<'_, '_>,
+) -> Result<(), AllocError>
+    requires { IsSome (fault_in bodies text.now.source) }
+    ensures { OnOk result (TellsHalt bodies text.now.source found.old found.new) }
+{
+    match Halt::of(alloc, text, bodies)? {
+        Some(halt) => tell_halt(alloc, text.source(), halt, found),
+        None => unreachable!(),
+    }
+}
+
+/// Adds that a text stops being a script there.
+fn tell_halt(
+    alloc: Global,
+    text: &[u8],
+    halt: Halt,
+    found: &mut Findings<'_, '_>,
+) -> Result<(), AllocError>
+    ensures { OnOk result (found.new ≡ found_more found.old
+        (found_at halt.fault.place finding.Syntax (halt_sentence text.now halt) ∷ [])) }
+{
+    let sentence = halt_sentence(alloc, text, halt)?;
+    found.add(halt.fault.place, FindingKind::Syntax, &sentence, b"", b"")
 }

@@ -1,5 +1,5 @@
 -- What is told of blocks that aren't scripts.
-use Rattle.std.proofs.Common.{◌≡◌, ℕ, ◌++◌, List, [], ◌∷◌, Option, None, sym, subst}
+use Rattle.std.proofs.Common.{◌≡◌, ℕ, ◌++◌, List, [], ◌∷◌, Option, None, Some, sym, subst}
 use Rattle.std.proofs.lemmas.List.{append-nil}
 use Rattle.std.proofs.lemmas.List.Folds.{concat-append}
 use Rattle.std.proofs.KnownBytes.{Appends-trans, Appends-nil}
@@ -8,7 +8,7 @@ use Rattle.std.specs.List.{AllByRecursion}
 use Rattle.std.specs.Prelude.{codes}
 use Rattle.fw_engines.specs.ScriptFaults.{fault_line}
 use Rattle.fw_engines.specs.Streams.{AppendsFront}
-use Rattle.hush_syntax.specs.FaultPlaces.{IsFaultOf}
+use Rattle.hush_syntax.specs.Halts.{fault_in}
 use Rattle.hush_syntax.specs.Reading.{read_in}
 use Rattle.hush_syntax.specs.declared.nodes.Bodies.{Bodies}
 use Rattle.hush_syntax.specs.declared.syntax_fault.SyntaxFault.{SyntaxFault}
@@ -17,9 +17,9 @@ use Rattle.fw_session.specs.BlockFaults.{IsFaultFront, Tells}
 pub tells_none : (bodies : Bodies) (a : Option (List ℕ)) → Tells bodies a a
 tells_none bodies a = ([], tt, Appends-nil a)
 
-pub tells_one : (bodies : Bodies) (text copy : List ℕ) (fault : SyntaxFault) (a b : Option (List ℕ)) → copy ≡ text → read_in bodies copy ≡ None → IsFaultOf copy fault →
+pub tells_one : (bodies : Bodies) (text copy : List ℕ) (fault : SyntaxFault) (a b : Option (List ℕ)) → copy ≡ text → read_in bodies copy ≡ None → fault_in bodies copy ≡ Some fault →
     AppendsFront a b (fault_line (codes "block") text fault.place fault.kind) → Tells bodies a b
-tells_one bodies text copy fault a b same unread fits told = (
+tells_one bodies text copy fault a b same unread exact told = (
   told.0 ∷ [],
   (
     record {
@@ -27,7 +27,7 @@ tells_one bodies text copy fault a b same unread fits told = (
       fault = fault;
       rest = told.1;
       unread = subst (λ t. read_in bodies t ≡ None) same unread;
-      fits = subst (λ t. IsFaultOf t fault) same fits;
+      exact = subst (λ t. fault_in bodies t ≡ Some fault) same exact;
       line = told.2;
     },
     tt,

@@ -2,7 +2,7 @@
 use Rattle.std.specs.Prelude.{◌≡◌, ℕ, List, ◌++◌, codes, Option, Some, None}
 use Rattle.std.specs.Io.KnownBytes.{Appends}
 use Rattle.std.specs.List.{AllByRecursion, concat}
-use Rattle.hush_syntax.specs.FaultPlaces.{IsFaultOf}
+use Rattle.hush_syntax.specs.Halts.{fault_in}
 use Rattle.hush_syntax.specs.Reading.{read_in}
 use Rattle.hush_syntax.specs.declared.nodes.Bodies.{Bodies}
 use Rattle.hush_syntax.specs.declared.syntax_fault.SyntaxFault.{SyntaxFault}
@@ -14,7 +14,7 @@ pub record IsFaultFront (bodies : Bodies) (front : List ℕ) : Type 0 where
   pub fault : SyntaxFault
   pub rest : List ℕ
   pub unread : read_in bodies text ≡ None
-  pub fits : IsFaultOf text fault
+  pub exact : fault_in bodies text ≡ Some fault
   pub line : fault_line (codes "block") text fault.place fault.kind ≡ front ++ rest
 
 -- such lines were written, each as far as the writer took it, and nothing else

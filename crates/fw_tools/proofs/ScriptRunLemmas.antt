@@ -3,7 +3,7 @@ use Rattle.std.proofs.Common.{◌≡◌, ℕ, List, Some, None, Result, Ok, Err,
 use Rattle.std.specs.Prelude.{MatchResult}
 use Rattle.hush_run.specs.Meaning.{bodies_of}
 use Rattle.hush_syntax.specs.Reading.{read_in}
-use Rattle.hush_syntax.specs.FaultPlaces.{IsFaultOf}
+use Rattle.hush_syntax.specs.Halts.{fault_in}
 use Rattle.hush_syntax.specs.Scripts.{tree_of}
 use Rattle.hush_syntax.specs.declared.nodes.Bodies.{Bodies}
 use Rattle.hush_syntax.specs.declared.script.Script.{Script}
@@ -22,7 +22,7 @@ no_script holds run (halt.NoStandIn name back) none = tt
 -- or for its text
 text_halts : (holds : Holds) (run : ScriptRun) (text : List ℕ) (h : Halt) → IsTextOf holds run.script text → IsHaltOf (bodies_of run.dry.shell) (name_of_script run.script) text h → HaltsRun holds run h
 text_halts holds run text (halt.Script named given fault) is (same, items, unread, of) =
-    (subst (IsTextOf holds run.script) (sym items) is, (same, refl, subst (λ t. read_in (bodies_of run.dry.shell) t ≡ None) (sym items) unread, subst (λ t. IsFaultOf t fault) (sym items) of))
+    (subst (IsTextOf holds run.script) (sym items) is, (same, refl, subst (λ t. read_in (bodies_of run.dry.shell) t ≡ None) (sym items) unread, subst (λ t. fault_in (bodies_of run.dry.shell) t ≡ Some fault) (sym items) of))
 text_halts holds run text (halt.Files s) is of = tt
 text_halts holds run text (halt.NoStandIn name back) is never = tt
 

@@ -4,7 +4,7 @@ use Rattle.std.specs.List.{flat_map}
 use Rattle.clap.specs.Words.{Text}
 use Rattle.env_session.specs.Session.{Held}
 use Rattle.hush_syntax.specs.Grammar.{Chains}
-use Rattle.hush_syntax.specs.FaultPlaces.{IsFaultOf}
+use Rattle.hush_syntax.specs.Halts.{fault_in}
 use Rattle.hush_syntax.specs.Reading.{read_in}
 use Rattle.hush_syntax.specs.declared.nodes.Bodies.{Bodies}
 use Rattle.hush_commands.specs.Hardware.{Hardware}
@@ -49,10 +49,10 @@ name_of_script (Names names) = codes "run"
 name_of_script (Words given) = codes "-e"
 name_of_script (File path) = path
 
--- the text of this name isn't a script: a fault that it has there; or memory ran out
+-- the text of this name isn't a script, by its first fault; or memory ran out
 abbrev pub IsHaltOf : Bodies → (name text : List ℕ) → Halt → Type 0
 IsHaltOf bodies name text (halt.Script named given fault) =
-    (named.now ≡ name) × (given.items ≡ text) × (read_in bodies text ≡ None) × IsFaultOf text fault
+    (named.now ≡ name) × (given.items ≡ text) × (read_in bodies text ≡ None) × (fault_in bodies text ≡ Some fault)
 IsHaltOf bodies name text (halt.Files stop.Memory) = ⊤
 IsHaltOf bodies name text halt = ⊥
 

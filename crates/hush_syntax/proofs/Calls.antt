@@ -2,8 +2,8 @@
 use Rattle.std.proofs.Common.{◌≡◌, ℕ, Bool, List, sym, ◌∙◌, ap, Option, Some}
 use Rattle.hush_words.specs.Parts.{Written}
 use Rattle.hush_words.specs.Tokens.{Token}
-use Rattle.hush_syntax.specs.declared.syntax_fault.FaultKind.{FaultKind}
-use Rattle.hush_syntax.specs.declared.syntax_fault.FaultKind.TheVariants as fault
+use Rattle.hush_syntax.specs.declared.refusal.Refusal.{Refusal}
+use Rattle.hush_syntax.specs.declared.refusal.Refusal.TheVariants as refusal
 use Rattle.hush_syntax.specs.declared.table.Builder.{Builder}
 use Rattle.hush_syntax.specs.Answers.{Refuses}
 use Rattle.hush_syntax.specs.Grammar.{begins}
@@ -13,29 +13,13 @@ use Rattle.hush_syntax.specs.Builders.{waiting, later, Grows}
 use Rattle.hush_syntax.specs.Reading.{is}
 
 -- a refusal for one reason is a refusal for what follows from it
-pub refuses : {A B : Type 0} (kind : FaultKind) → (A → B) → Refuses kind A → Refuses kind B
-refuses fault.Quote f r = f r
-refuses fault.Backslash f r = f r
-refuses fault.Substitution f r = f r
-refuses fault.Operator f r = f r
-refuses fault.Unexpected f r = f r
-refuses fault.Missing f r = f r
-refuses fault.Nest f r = f r
-refuses fault.Assignment f r = f r
-refuses fault.Nul f r = f r
-refuses fault.Memory f r = tt
+pub refuses : {A B : Type 0} (r : Refusal) → (A → B) → Refuses r A → Refuses r B
+refuses refusal.NoScript f a = f a
+refuses refusal.Memory f a = tt
 
-pub refuses_always : {A : Type 0} (kind : FaultKind) → A → Refuses kind A
-refuses_always fault.Quote a = a
-refuses_always fault.Backslash a = a
-refuses_always fault.Substitution a = a
-refuses_always fault.Operator a = a
-refuses_always fault.Unexpected a = a
-refuses_always fault.Missing a = a
-refuses_always fault.Nest a = a
-refuses_always fault.Assignment a = a
-refuses_always fault.Nul a = a
-refuses_always fault.Memory a = tt
+pub refuses_always : {A : Type 0} (r : Refusal) → A → Refuses r A
+refuses_always refusal.NoScript a = a
+refuses_always refusal.Memory a = tt
 
 pub tested : (text asked : List ℕ) (now : List Token) (b v : Bool) → b ≡ begins (is asked) now → asked ≡ text → b ≡ v → begins (is text) now ≡ v
 tested text asked now b v called same value = ap (λ x. begins (is x) now) (sym same) ∙ sym called ∙ value

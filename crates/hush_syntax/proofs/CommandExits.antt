@@ -11,7 +11,7 @@ use Rattle.hush_words.specs.declared.parts.Word as part
 use Rattle.hush_words.specs.Tokens.{Token}
 use Rattle.hush_words.specs.Tokens.Token.{Word}
 use Rattle.hush_syntax.specs.declared.nodes.Bodies.{Bodies}
-use Rattle.hush_syntax.specs.declared.syntax_fault.SyntaxFault.{SyntaxFault}
+use Rattle.hush_syntax.specs.declared.refusal.Refusal.{Refusal}
 use Rattle.hush_syntax.specs.declared.keywords.Keyword.{Keyword}
 use Rattle.hush_syntax.specs.declared.stored.Block.{Block}
 use Rattle.hush_syntax.specs.declared.table.Builder.{Builder}
@@ -76,7 +76,7 @@ assign-built text ts old mid new a sides id e are grows waits p =
     p
 
 -- a command
-module _ (text : Written) (bodies : Bodies) (room : ℕ) (old new : Builder) (ts left : List Token) (r : Result NodeId SyntaxFault) where
+module _ (text : Written) (bodies : Bodies) (room : ℕ) (old new : Builder) (ts left : List Token) (r : Result NodeId Refusal) where
   pub by_plain : keyword_at ts ≡ None → Builds CommandAt text old new (plain ts) left r → Builds CommandAt text old new (command bodies room ts) left r
   by_plain e answers = subst (λ x. Builds CommandAt text old new x left r) (sym (command-plain bodies room ts e)) answers
 

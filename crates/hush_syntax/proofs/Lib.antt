@@ -27,4 +27,13 @@ pub mod WordLaws
 pub mod WordScans
 pub mod PassedWords
 pub mod WordSteps
+pub mod HaltLemmas
+pub mod Stuck
+pub mod InLists
+pub mod InCommands
+pub mod ClosingWords
+pub mod ListEnds
+pub mod HaltLists
+pub mod HaltForms
+pub mod HaltLaw
 pub mod TextRows

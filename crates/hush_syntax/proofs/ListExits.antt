@@ -8,7 +8,7 @@ use Rattle.hush_syntax.specs.declared.table.Builder.{Builder}
 use Rattle.hush_syntax.specs.declared.nodes.NodeId.{NodeId}
 use Rattle.hush_syntax.specs.declared.stored.Stored.{Stored}
 use Rattle.hush_syntax.specs.declared.stored.Stored.TheVariants as node
-use Rattle.hush_syntax.specs.declared.syntax_fault.SyntaxFault.{SyntaxFault}
+use Rattle.hush_syntax.specs.declared.refusal.Refusal.{Refusal}
 use Rattle.hush_syntax.specs.Grammar.{Command, Simple, Chain, First, End, Chains, is_separator, begins, nothing, nest_limit}
 use Rattle.hush_syntax.specs.Nodes.{Subtree, OfChains, OfCommand, chain_of, RootAt, ChainAt}
 use Rattle.hush_syntax.specs.Stored.{Members, built, block_of}
@@ -121,7 +121,7 @@ module _ (text : Written) (bodies : Bodies) (room : ℕ) (ts now : List Token) (
       inner-is (ap ends_here (sym e) ∙ h) ∙ ap (λ (x : List Token). let o : Option (Chains × List Token) = Some (nothing, x) in o) (sym e) in
       (f.0, found ∙ f.1, f.2, f.3, f.4)
 
-  pub inner-listed : (old new : Builder) (left : List Token) (r : Result NodeId SyntaxFault) → ends_here now ≡ false → Builds ChainsAt text old new (list (command bodies room) now) left r → Builds ChainsAt text old new (inner bodies (command bodies room) ts) left r
+  pub inner-listed : (old new : Builder) (left : List Token) (r : Result NodeId Refusal) → ends_here now ≡ false → Builds ChainsAt text old new (list (command bodies room) now) left r → Builds ChainsAt text old new (inner bodies (command bodies room) ts) left r
   inner-listed old new left r h b =
       subst (λ x. Builds ChainsAt text old new x left r) (sym (inner-same (ap ends_here (sym e) ∙ h) ∙ ap (list (command bodies room)) (sym e))) b
 

@@ -39,6 +39,11 @@ placed-told place (l ∷ ls) =
     ∙ ap (λ x. x ++ unplaced rest) (one-place place (lexeme_tokens l))
     ∙ ap (λ x. lexeme_tokens l ++ x) (placed-told (place + length (lexeme_text l)) ls)
 
+-- the tokens of a text
+pub all-told : (text : List ℕ) → unplaced (placed_left 0 text) ≡ tokens_left text
+unfolding placed_left tokens_left
+all-told text = placed-told 0 (all lexeme_at text).0
+
 behind-told : (text : Written) (o : Result code.Token SyntaxFault) (b : ℕ) → unplaced (placed_behind text o b) ≡ with_behind text o b
 unfolding placed_left tokens_left
 behind-told text (Err f) b = refl

@@ -3,7 +3,7 @@ use Rattle.std.specs.Prelude.{◌≡◌, ℕ, ◌-◌, length, take, drop, List,
 use Rattle.hush_words.specs.Parts.{Written, word_atoms}
 use Rattle.hush_words.specs.Tokens.{Token}
 use Rattle.hush_words.specs.declared.parts.Word.{Word}
-use Rattle.hush_syntax.specs.declared.syntax_fault.SyntaxFault.{SyntaxFault}
+use Rattle.hush_syntax.specs.declared.refusal.Refusal.{Refusal}
 use Rattle.hush_syntax.specs.declared.nodes.NodeId.{NodeId}
 use Rattle.hush_syntax.specs.declared.nodes.Link as link
 use Rattle.hush_syntax.specs.declared.nodes.Branch as branch
@@ -132,20 +132,25 @@ LoopAt form at x p = (c d : Chains) × (x ≡ form c d) × (at p.0 ≡ Some (OfC
 -- found nothing
 abbrev pub Builds :
     {X Y : Type 0} → (At → X → Y → Type 0) → Written → Builder → Builder → Option (X × List Token) → List Token →
-    Result Y SyntaxFault → Type 0
+    Result Y Refusal → Type 0
 Builds {X} Is text old new found left (Ok y) =
     (x : X) × (found ≡ Some (x, left)) × Grows old.table new.table × ((more : Members) → Is (later text new.table more) x y) ×
     (waiting new ≡ waiting old)
-Builds Is text old new found left (Err f) = Refuses f.kind (found ≡ None)
+Builds Is text old new found left (Err r) = Refuses r (found ≡ None)
 
 -- the same by the reader, which begins at the tokens that were left before and ends at those that are left after
 abbrev pub Parses :
-    {X Y : Type 0} → (At → X → Y → Type 0) → Written → Reader X → Builder → Builder → Tokens → Tokens → Result Y SyntaxFault → Type 0
+    {X Y : Type 0} → (At → X → Y → Type 0) → Written → Reader X → Builder → Builder → Tokens → Tokens → Result Y Refusal → Type 0
 Parses Is text reader old new before after result = Builds Is text old new (reader (left_in text before)) (left_in text after) result
 
-abbrev pub BuildsScript : Written → Builder → Option (Option Chains) → Result (Option NodeId) SyntaxFault → Type 0
-BuildsScript text builder found (Ok root) = (x : Option Chains) × (found ≡ Some x) × ((more : Members) → RootAt (later text builder.table more) x root)
-BuildsScript text builder found (Err f) = Refuses f.kind (found ≡ None)
+-- the script that was found is what the root stands for
+abbrev pub RootBuilt : Written → Builder → Option (Option Chains) → Option NodeId → Type 0
+RootBuilt text builder found root =
+    (x : Option Chains) × (found ≡ Some x) × ((more : Members) → RootAt (later text builder.table more) x root)
+
+abbrev pub BuildsScript : Written → Builder → Option (Option Chains) → Result (Option NodeId) Refusal → Type 0
+BuildsScript text builder found (Ok root) = RootBuilt text builder found root
+BuildsScript text builder found (Err r) = Refuses r (found ≡ None)
 
 -- the words in the table, and those still to come
 abbrev pub words_due : Written → Spot → Builder → Tokens → List PlacedWord

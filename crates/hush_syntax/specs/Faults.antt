@@ -1,5 +1,6 @@
 -- The faults of a script that its words and the parser's next token give (docs/scripts.md, "Faults").
-use Rattle.std.specs.Prelude.{ℕ, Bool, true, false, Result, Ok, Err, if◌then◌else◌}
+use Rattle.std.specs.Prelude.{ℕ, Bool, true, false, List, length, Some, None, Result, Ok, Err}
+use Rattle.hush_words.specs.Faults.{token_fault}
 use Rattle.hush_words.specs.declared.faults.Fault.{Fault}
 use Rattle.hush_words.specs.declared.faults.FaultKind as words
 use Rattle.hush_words.specs.declared.faults.FaultKind.TheVariants as word
@@ -8,8 +9,6 @@ use Rattle.hush_syntax.specs.declared.cursor.Tokens.{Tokens}
 use Rattle.hush_syntax.specs.declared.syntax_fault.FaultKind.{FaultKind}
 use Rattle.hush_syntax.specs.declared.syntax_fault.FaultKind.TheVariants as fault
 use Rattle.hush_syntax.specs.declared.syntax_fault.SyntaxFault.{SyntaxFault}
-use Rattle.hush_syntax.specs.declared.keywords.Keyword.{Keyword}
-use Rattle.hush_syntax.specs.Reading.{is_closing}
 
 -- the fault of a word, or of an operator, by the same name
 abbrev pub word_kind : words.FaultKind → FaultKind
@@ -34,6 +33,14 @@ fault_at tokens = first_fault tokens.next
 abbrev pub missing_at : ℕ → SyntaxFault
 missing_at len = record { place = len; kind = fault.Missing }
 
+-- what is wrong where the tokens of a text end, if something must still come
+unfoldable pub end_fault : List ℕ → SyntaxFault
+end_fault text =
+    elim (token_fault text) [
+      | Some f ↦ word_fault f
+      | None ↦ missing_at (length text)
+    ]
+
 -- memory was refused
 abbrev pub memory_refused : SyntaxFault
 memory_refused = record { place = 0; kind = fault.Memory }
@@ -50,12 +57,3 @@ is_missing fault.Nest = false
 is_missing fault.Assignment = false
 is_missing fault.Nul = false
 is_missing fault.Memory = false
-
--- what is wrong with a word after an assignment
-abbrev pub assignment_fault : Tokens → SyntaxFault
-assignment_fault tokens = record { place = (fault_at tokens).place; kind = fault.Assignment }
-
--- what is wrong with a reserved word for which there is no room: an opening word is too deep, a closing one can't
--- be there at all
-abbrev pub nested_kind : Keyword → FaultKind → FaultKind
-nested_kind keyword kind = if is_closing keyword then kind else fault.Nest

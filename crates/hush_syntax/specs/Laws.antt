@@ -1,10 +1,11 @@
 -- What follows from the definitions of the grammar.
-use Rattle.std.specs.Prelude.{◌≡◌, ℕ, ◌≤◌, List, map, Option, Some, ◌↔◌}
+use Rattle.std.specs.Prelude.{◌≡◌, ℕ, ◌≤◌, true, List, map, Option, Some, None, is_some, ◌↔◌}
 use Rattle.hush_words.specs.Tokens.{Token}
 use Rattle.hush_syntax.specs.declared.nodes.Bodies.{Bodies}
 use Rattle.hush_syntax.specs.declared.nodes.Bodies.TheVariants.{Full}
 use Rattle.hush_syntax.specs.Grammar.{Chains, SpellsScript, script_depth, nest_limit, SpellsIn, SpellsText}
 use Rattle.hush_syntax.specs.CommandWords.{PlacedWord, leaf, script_leaves, words_of}
+use Rattle.hush_syntax.specs.Halts.{halt_in}
 use Rattle.hush_syntax.specs.Reading.{script_in, script_of, read_in, read}
 
 -- a text spells at most one tree
@@ -38,3 +39,7 @@ abbrev pub WordsAreTold : Type 0
 WordsAreTold =
     (bodies : Bodies) (text : List ℕ) (script : Option Chains) →
     SpellsIn bodies script text → map (λ (w : PlacedWord). leaf w.1) (words_of text) ≡ script_leaves script
+
+-- a text stops being a script somewhere exactly if it spells none
+abbrev pub HaltsAreTold : Type 0
+HaltsAreTold = (bodies : Bodies) (text : List ℕ) → (read_in bodies text ≡ None) ↔ (is_some (halt_in bodies text) ≡ true)

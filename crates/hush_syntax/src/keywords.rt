@@ -8,7 +8,7 @@ use hush_words::{Text, Word};
 
 /// The reserved words. A word is one of them only where a command may begin, and only if all its bytes are unquoted.
 #[derive(Clone, Copy, Debug, PartialEq, Eq)]
-pub(crate) enum Keyword {
+pub enum Keyword {
     If,
     Then,
     Elif,
@@ -38,7 +38,8 @@ impl Keyword {
         Keyword::Done,
     ];
 
-    pub(crate) fn text(self) -> &'static [u8]
+    /// Its bytes.
+    pub fn text(self) -> &'static [u8]
         ensures { result.now ≡ spelling self }
     {
         match self {
@@ -96,7 +97,7 @@ impl Keyword {
     }
 
     /// It ends a list of chains.
-    pub(crate) fn is_closing(self) -> bool
+    pub fn is_closing(self) -> bool
         ensures { result ≡ is_closing self }
     {
         match self {

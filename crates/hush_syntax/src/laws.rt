@@ -1,6 +1,6 @@
 //! What holds of the grammar for every text. The functions do nothing; their contracts are the laws.
 
-ghost use Rattle.hush_syntax.specs.Laws.{OneTree, OneTreeIn, ScriptsAreRead, ScriptsAreReadIn, TreesAreRead, TreesAreReadIn, WordsAreTold};
+ghost use Rattle.hush_syntax.specs.Laws.{HaltsAreTold, OneTree, OneTreeIn, ScriptsAreRead, ScriptsAreReadIn, TreesAreRead, TreesAreReadIn, WordsAreTold};
 
 use crate::Bodies;
 use hush_words::laws::{assignment_is_told, name_is_told, plain_is_told, tokens_are_read};
@@ -53,6 +53,16 @@ pub fn scripts_are_read_in(bodies: Bodies)
 /// The words of a text's commands, without reserved words, are those of the tree that it spells.
 pub fn words_are_told()
     ensures { WordsAreTold }
+{
+    plain_is_told();
+    name_is_told();
+    assignment_is_told();
+    tokens_are_read();
+}
+
+/// A text stops being a script somewhere exactly if it spells none.
+pub fn halts_are_told()
+    ensures { HaltsAreTold }
 {
     plain_is_told();
     name_is_told();

@@ -1,11 +1,11 @@
 //! The tables that hold a script's nodes.
 
 ghost use Rattle.std.specs.Prelude.{◌≡◌, ◌≤◌, ◌-◌, ◌++◌, [], ◌∷◌, length, map, take, drop, IfOk, IfErr, OnOk};
-ghost use Rattle.hush_syntax.specs.declared.syntax_fault.FaultKind.TheVariants.{Memory};
+ghost use Rattle.hush_syntax.specs.declared.refusal.Refusal.TheVariants.{Memory};
 
-use crate::SyntaxFault;
 use crate::cursor::Tokens;
 use crate::nodes::{Branch, Link, NodeId};
+use crate::refusal::Refusal;
 use crate::stored::{Block, Stored};
 use hush_words::{Text, Word};
 use std::alloc::{AllocError, Global};
@@ -37,7 +37,7 @@ pub(crate) struct Builder {
 
 impl Builder {
     ghost use Rattle.hush_words.specs.Parts.{word_atoms};
-    ghost use Rattle.hush_syntax.specs.Answers.{left_in, SameEnd, IsAt, Keeps, words_left};
+    ghost use Rattle.hush_syntax.specs.Answers.{left_in, SameEnd, IsAt, words_left};
     ghost use Rattle.hush_syntax.specs.CommandWords.{Within, word_placed};
     ghost use Rattle.hush_syntax.specs.Builders.{Put, Adds, SettlesChains, SettlesLinks, SettlesBranches, Grows, IsEmpty, waiting, add_chains, add_links, add_branches, SameWords, words_due};
     ghost use Rattle.hush_syntax.specs.Stored.{Members, block_of};
@@ -74,11 +74,7 @@ impl Builder {
     }
 
     /// Takes the words that come next into the table.
-    pub(crate) fn take_words(
-        &mut self,
-        text: &Text,
-        tokens: &mut Tokens,
-    ) -> Result<Block, SyntaxFault>
+    pub(crate) fn take_words(&mut self, text: &Text, tokens: &mut Tokens) -> Result<Block, Refusal>
         requires at { IsAt text.now tokens.old }
         ensures words { IfOk result (λ block. (more : Members) → words_in text.now
             (block_of block (self.new.table.words.items ++ more.words)) ≡ words_at (left_in text.now tokens.old)) }
@@ -87,8 +83,8 @@ impl Builder {
         ensures waits { OnOk result (waiting self.new ≡ waiting self.old) }
         ensures left { OnOk result (left_in text.now tokens.new ≡ skip is_word (left_in text.now tokens.old)) }
         ensures whole { OnOk result (SameEnd text.now tokens.old tokens.new) }
-        ensures at { Keeps text.now tokens.new result }
-        ensures refused { IfErr result (λ f. f.kind ≡ Memory) }
+        ensures at { OnOk result (IsAt text.now tokens.new) }
+        ensures refused { IfErr result (λ refusal. refusal ≡ Memory) }
     {
         let first = count(&self.table.words);
         tokens.words(text, &mut self.table.words)?;
@@ -102,7 +98,7 @@ impl Builder {
         name: Word,
         text: &Text,
         tokens: &mut Tokens,
-    ) -> Result<Block, SyntaxFault>
+    ) -> Result<Block, Refusal>
         requires at { IsAt text.now tokens.old }
         ensures words { IfOk result (λ block. (more : Members) → words_in text.now
             (block_of block (self.new.table.words.items ++ more.words)) ≡ word_atoms text.now name ∷ words_at (left_in text.now tokens.old)) }
@@ -112,8 +108,8 @@ impl Builder {
         ensures waits { OnOk result (waiting self.new ≡ waiting self.old) }
         ensures left { OnOk result (left_in text.now tokens.new ≡ skip is_word (left_in text.now tokens.old)) }
         ensures whole { OnOk result (SameEnd text.now tokens.old tokens.new) }
-        ensures at { Keeps text.now tokens.new result }
-        ensures refused { IfErr result (λ f. f.kind ≡ Memory) }
+        ensures at { OnOk result (IsAt text.now tokens.new) }
+        ensures refused { IfErr result (λ refusal. refusal ≡ Memory) }
     {
         let first = count(&self.table.words);
         self.table.words.push(name)?;

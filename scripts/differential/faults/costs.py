@@ -126,12 +126,12 @@ def checks():
     script = b"a;" * 500_000
     found = [in_line(unknown % (b"s", column), script, column) for column in range(1, 1_000_000, 2)]
     yield check("500,000 commands that nobody has", [b"-f", b"s", b"--stubs", b"none"], {b"s": script, b"none": b""}, found)
-    found = [pointed(b"s:200001:1: error: not expected here (Unexpected) [syntax]\n", b"fi")]
+    found = [pointed(b"s:200001:1: error: `fi` without `if` (Unexpected) [syntax]\n", b"fi")]
     yield check("a fault in line 200,001", [b"-f", b"s"], {b"s": b"true\n" * 200_000 + b"fi"}, found)
     for name, faulty, column, said in (
         ("65,535 quotes", b'"' * 65_535, 65_535, b"a quote is not closed (Quote)"),
         ("100,000 openings", b"if true; then " * 100_000, 897, b"more than 64 commands inside one another (Nest)"),
-        ("100,000 branches", b"if a; then b; " + b"elif a; then b; " * 100_000, 1_600_015, b"the text ends where more has to follow (Missing)"),
+        ("100,000 branches", b"if a; then b; " + b"elif a; then b; " * 100_000, 1_600_015, b"no `fi` for the `if` in line 1 of the script (Missing)"),
     ):
         found = [in_line(b"s:1:%d: error: %s [syntax]\n" % (column, said), faulty, column)]
         yield check(name, [b"-f", b"s"], {b"s": faulty}, found)

@@ -65,8 +65,14 @@ NOTHING = "check: error: there is no script to look at [no-script]"
 no_variable = finding("error: no variable of this name is defined", "no-variable")
 
 
-def no_script(place, kind):
-    return f"{place}: error: {SENTENCES[kind].decode()} ({kind}) [syntax]"
+def lost(what, keyword, line=1):
+    """What is missing of a form that begins in this line."""
+    return f"no {what} for the `{keyword}` in line {line} of the script"
+
+
+def no_script(place, kind, lacking=None):
+    """`lacking`: what is missing there, if the kind is Unexpected or Missing."""
+    return f"{place}: error: {lacking or SENTENCES[kind].decode()} ({kind}) [syntax]"
 
 
 def several(finding, text):

@@ -1,5 +1,6 @@
 """Scripts that are cut at each place and changed at random: several in a session, each after an undo of all. The last
-one of a session is saved, so that its copy is seen. One that is cut is run alone too, which tells what its fault is and where."""
+one of a session is saved, so that its copy is seen. One that is cut is run alone too, which tells what its fault is and where; and words of forms
+at random are checked, which tells what is missing there."""
 
 import functools
 
@@ -31,6 +32,11 @@ TOKENS = [
     b" run r;", b"saveenv;", b'""', b"=", b"$x$x$x$x$x", b" setenv x $x$x;", b";w=" + b"0123456789" * 7 + b";",
     b"if " * 64,
 ]  # fmt: skip
+# Words of forms, which hardly ever are a script in any order
+FORMS = [
+    b"if", b"then", b"elif", b"else", b"fi", b"fi;", b"for", b"in", b"while", b"until", b"do", b"done", b"if a;", b"then a;", b"for i in a;", b"while a;", b"do a;",
+    b"a", b"true", b"x=1", b"1", b"'if'", b"&&", b"||", b";", b";", b";", b"\n", b"\\\n", b"# c\n",
+]  # fmt: skip
 OFTEN = {ending: 0.001 for ending in ("Finished", "Exited", "Steps", "Depth", "Word", "Output", "Syntax")}
 
 
@@ -53,6 +59,14 @@ def cut(text):
     yield together(prefixes(text))
 
 
+def words_of_forms(seed, number):
+    """A check of such words, which tells what is missing where."""
+    numbers = numbers_of("words of forms", seed, number)
+    text = b" ".join(numbers.choice(FORMS) for _ in range(numbers.randint(1, 14)))
+    return Case("words of forms", [b"check", *numbers.choice([[], STRICT]), b"-f", b"script"], {b"script": text})
+
+
 def chunks(count, seed):
-    """This many sessions are made at random."""
-    return [functools.partial(cut, text) for text in SCRIPTS] + at_random(count, functools.partial(changed_scripts, seed))
+    """This many sessions are made at random, and a quarter as many checks."""
+    made = at_random(count, functools.partial(changed_scripts, seed)) + at_random(count // 4, functools.partial(words_of_forms, seed))
+    return [functools.partial(cut, text) for text in SCRIPTS] + made

@@ -100,7 +100,7 @@ def lost_endings(text, _variables, _stubs):
     *_, last = [None, *CLOSING.finditer(text)]
     if last:
         other = text[: last.start()] + text[last.end() :]
-        yield other, no_script(place(other, len(other)), "Missing")
+        yield other, f"{place(other, len(other))}: error: no `{last.group().decode()}` for the `"
 
 
 def carriage_returns(text, _variables, _stubs):
@@ -112,11 +112,11 @@ SLIPS = (misspelt_names, misspelt_commands, misspelt_substitutions, brackets, lo
 
 
 def slipped(name, variables, stubs, script, slip):
-    """A board with a mistake in this script: its line is among what the model finds, and that is all."""
+    """A board with a mistake in this script: its line, which begins like this, is among what the model finds, and that is all."""
     text, found = slip
     files = {b"env": text_of(variables | {script: text}), b"stand-ins": stubs}
     case = Case(f"{name}: a slip in {script.decode()}", [b"check", b"--env", b"env", *with_stand_ins([b"script"])], files)
-    wanted = lines([found], script.decode())
+    wanted = b"%s:%s" % (script, found.encode())
     case.accepts = lambda seen: seen.is_as(case.answer()) and wanted in seen.output and seen.status == int(b": error: " in seen.output)
     return case
 

@@ -4,7 +4,7 @@ wrong use that prints a usage text, and the lines below a finding that show its 
 from differential.harness.boards import STRICT, text_of
 
 from differential.harness.check_lines import (
-    apostrophe, backquoted, cuts, drops, drops_at_load, empties, exits, hidden, in_braces, joins, keeps, lacked, leaves, lines, loose, mixes, no_calculation,
+    apostrophe, backquoted, cuts, drops, drops_at_load, empties, exits, hidden, in_braces, joins, keeps, lacked, leaves, lines, loose, lost, mixes, no_calculation,
     no_calculator, no_script, no_setting, no_subcommand, no_words, no_words_of_env, not_assigned, not_defined, not_run, one_word, place, pointed, refuses,
     rereads, returned, row, too_many,
 )  # fmt: skip
@@ -64,7 +64,7 @@ QUOTED = [
     ),
     (b"echo \"it's\" $_x '\\' \\\n'", [no_script("2:1", "Quote")]),
     (b"echo $$_x", [no_script("1:6", "Substitution")]),
-    (b"true &&\n", [no_script("2:1", "Missing")]),
+    (b"true &&\n", [no_script("2:1", "Missing", "no command before the end of the text")]),
     (b"echo \\a\r\n'", [returned("1:8"), no_script("2:1", "Quote")]),
 ]
 # The same of commands
@@ -165,9 +165,9 @@ SHOWN = [
 ]  # fmt: skip
 # The same of other findings
 SHOWN_OTHERS = [
-    (b"if true; then echo", no_script("1:19", "Missing"), b"if true; then echo", 18),
-    (b"if true; then echo " + b"x" * 40, no_script("1:60", "Missing"), b"..." + b"x" * 30, 33),
-    (b"while true\ndo echo\n", no_script("3:1", "Missing"), b"", 0),
+    (b"if true; then echo", no_script("1:19", "Missing", lost("`fi`", "if")), b"if true; then echo", 18),
+    (b"if true; then echo " + b"x" * 40, no_script("1:60", "Missing", lost("`fi`", "if")), b"..." + b"x" * 30, 33),
+    (b"while true\ndo echo\n", no_script("3:1", "Missing", lost("`done`", "while")), b"", 0),
     (b"true &&\ntrue", loose("1:8"), b"true &&", 7),
     (b"echo a\r\n", returned("1:7"), b"echo a?", 6),
     (b"# a\n \\\na", joins("2:2"), b" \\", 1),

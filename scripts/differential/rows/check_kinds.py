@@ -4,7 +4,7 @@ over an environment and alone, with stand-ins and without."""
 from differential.harness.boards import STRICT
 
 from differential.harness.check_lines import (
-    QUOTING, any_target, cuts, exits, lacked, lacked_test, leaves, lines, mixes, no_calculation, no_expression, no_functions, no_operator, no_operator_of_board, no_script, no_subcommand,
+    QUOTING, any_target, cuts, exits, lacked, lacked_test, leaves, lines, lost, mixes, no_calculation, no_expression, no_functions, no_operator, no_operator_of_board, no_script, no_subcommand,
     no_words_of_env, not_assigned, not_called, not_defined, not_run, of_if, of_loop, runs_nothing,
     of_file, on_board, over, place, returned, row, several, stale, with_stand_ins, without,
 )  # fmt: skip
@@ -149,7 +149,7 @@ CALLED = [
     ),
     (b'$laod x; "$mmc"; l${x}; laod$?; $l', several(not_defined, "1:1 laod 1:10 mmc 1:33 l")),
     (b"echo laod; b=laod; setenv c 'laod'; # laod", []),
-    (b"if then", [no_script("1:4", "Unexpected")]),
+    (b"if then", [no_script("1:4", "Unexpected", "no command before `then`")]),
     (b"laod; 'x", [no_script("1:7", "Quote")]),
 ]
 # Words of `test` that aren't operators by the strict shell, with and without stand-ins and variables
@@ -233,8 +233,8 @@ RETURNS = [
     (b"echo '\\r' \\r", []),
     (b"echo a\r\n'", [returned("1:7"), no_script("2:1", "Quote")]),
     (b"'\r", [returned("1:2"), no_script("1:1", "Quote")]),
-    (b"if true; then\r\n  echo a\r\nfi\r\n", [returned("1:14"), no_script("4:1", "Missing")]),
-    (b"if true; then echo a; fi\r\n", [returned("1:25"), no_script("2:1", "Missing")]),
+    (b"if true; then\r\n  echo a\r\nfi\r\n", [returned("1:14"), no_script("4:1", "Missing", lost("`then`", "if"))]),
+    (b"if true; then echo a; fi\r\n", [returned("1:25"), no_script("2:1", "Missing", lost("`fi`", "if"))]),
 ]
 # Commands that this shell lacks, with stand-ins of other names
 LACKED = [
@@ -484,12 +484,12 @@ def every_way(script, found, stand_ins=STAND_INS):
 
 
 def no_scripts():
-    for script, line, column, kind in NO_SCRIPTS:
+    for script, line, column, *fault in NO_SCRIPTS:
         at = script.find(b"\r")
         found = [] if at < 0 else [returned(place(script, at))]
-        yield from each_way(script, [*found, no_script(f"{line}:{column}", kind)], STRICT)
+        yield from each_way(script, [*found, no_script(f"{line}:{column}", *fault)], STRICT)
         if script not in EMPTY_BODIES:
-            yield from each_way(script, [*found, no_script(f"{line}:{column}", kind)])
+            yield from each_way(script, [*found, no_script(f"{line}:{column}", *fault)])
     for script in EMPTY_BODIES:
         yield of_file(script, [], b"")
         yield over({b"a": b"1", b"s": script}, [b"s"], b"")

@@ -6,7 +6,7 @@ import re
 from differential.harness.boards import CONFIG, STRICT, arguments, board, calls, text_of
 
 from differential.harness.check_lines import (
-    NOTHING, QUOTING, any_target, cut_off, drops_at_load, hidden, hidden_then, lacked, last, lines, no_calculation, no_script, no_setting, no_operator_of_board, no_variable, not_assigned, not_assigned_then, not_called, not_defined, not_run, not_typed, of_if, of_loop, on_board, pointed, returned,
+    NOTHING, QUOTING, any_target, cut_off, drops_at_load, hidden, hidden_then, lacked, last, lines, lost, no_calculation, no_script, no_setting, no_operator_of_board, no_variable, not_assigned, not_assigned_then, not_called, not_defined, not_run, not_typed, of_if, of_loop, on_board, pointed, returned,
     row, runs_nothing, stale, with_stand_ins, without,
 )  # fmt: skip
 from differential.harness.running import Case
@@ -96,7 +96,7 @@ GIVEN = [
     (b"bootcmd=echo $n\nb=n=1\n", [b"bootcmd", b"b"], []),
     (b"bootcmd=echo $n\nb=n=1\n", [b"b", b"bootcmd"], []),
     (b"bootcmd=run b; echo $n\nb=n=1 '\n", [], [not_defined("bootcmd:1:13", "n"), no_script("b:1:5", "Quote")]),
-    (b"bootcmd=run b; echo $n\nb=setenv n 1; if\n", [], [not_defined("bootcmd:1:13", "n"), no_script("b:1:15", "Missing")]),
+    (b"bootcmd=run b; echo $n\nb=setenv n 1; if\n", [], [not_defined("bootcmd:1:13", "n"), no_script("b:1:15", "Missing", lost("`then`", "if"))]),
     (b"n=1\nbootcmd=echo $n ${m}\n", [], [not_defined("bootcmd:1:9", "m")]),
     (b"n=\nbootcmd=echo $n\n", [], [not_defined("bootcmd:1:6", "n")]),
     (b"bootcmd=run b b; echo $n\nb=echo $n\n", [], [not_defined("bootcmd:1:15", "n"), not_defined("b:1:6", "n")]),
@@ -135,7 +135,7 @@ WRITTEN = [
     (b"bootcmd=a=1; b=1; c=1; d=1; setenv ${x}a 1; test -n $b; env exists c; echo d d; setenv x a 1\nx=1\n", [], []),
     (b"bootcmd=n=1\nb=setenv n 2\n", [], []),
     (b"bootcmd=n=1\nb=setenv n 2\n", [b"bootcmd", b"b"], [not_assigned_then("bootcmd:1:1", "n")]),
-    (b"bootcmd=n=1; run b\nb=setenv n 2; if\n", [], [no_script("b:1:15", "Missing")]),
+    (b"bootcmd=n=1; run b\nb=setenv n 2; if\n", [], [no_script("b:1:15", "Missing", lost("`then`", "if"))]),
     (b"bootcmd=n=1; setenv n 2\nn=1\n", [], [not_assigned("bootcmd:1:1", "n")]),
     (b"bootcmd=setenv n=1 1; n=1\n", [], [no_setting("bootcmd:1:1")]),
 ]  # fmt: skip
@@ -261,7 +261,7 @@ ALL = [
     # names of commands as they are written
     (b"a=us start; run n\nb=mmc.b 1; run n\nc=setenv.b x; run n\nd=setexpr.b; run n\n", b"", [no_calculation("d:1:1"), not_run("d:1:16", "n")], 1),
     # what isn't a script, but looks like one
-    (b"a=echo 'run n\nb=if true; then run n\n", b"", [no_script("a:1:6", "Quote"), no_script("b:1:20", "Missing")], 2),
+    (b"a=echo 'run n\nb=if true; then run n\n", b"", [no_script("a:1:6", "Quote"), no_script("b:1:20", "Missing", lost("`fi`", "if"))], 2),
     # ordinary values, and the lists of U-Boot's `dfu`
     (b"args=console=ttyS0,115200 earlycon\nfiles=boot.scr.uimg boot.scr\ndtb=a b.dtb ${n}\nmtdparts=mtdparts=nand:1m(a);run n\n.flags=x:sr\n", b"", [NOTHING], 0),
     (b"targets=usb mmc0 pxe\nsize=load 10\n", b"", [], 2, [NOTHING], 0),

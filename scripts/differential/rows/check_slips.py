@@ -4,7 +4,7 @@ alone, or why there is none."""
 from differential.harness.boards import text_of
 
 from differential.harness.check_lines import (
-    apostrophe, backquoted, braced, drops_at_load, empties, hidden, lacked_test, leaves, loose, lost_test, no_calculation, no_calculator, no_expression, no_number, no_operator_of_board, no_script, no_separator, no_setting,
+    apostrophe, backquoted, braced, drops_at_load, empties, hidden, lacked_test, leaves, loose, lost, lost_test, no_calculation, no_calculator, no_expression, no_number, no_operator_of_board, no_script, no_separator, no_setting,
     no_subcommand, no_words_of_env, not_called, not_defined, not_run, over, redirected, runs_nothing,
 )  # fmt: skip
 from differential.harness.running import Case
@@ -35,15 +35,15 @@ SLIPS = [
     (b"mmc dev 0; mmcrescan; run mmcboot", not_called("1:12", "mmcrescan")),
     (b"// boots from the card\nrun mmcboot", not_called("1:1", "//")),
     # words of `if` and loops, and separators
-    (b"if run loadkernel then run mmcboot; fi", no_script("1:37", "Unexpected")),
-    (b"if run loadkernel; run mmcboot; fi", no_script("1:33", "Unexpected")),
-    (b"if run loadkernel; then run mmcboot; else run netboot", no_script("1:54", "Missing")),
-    (b"for d in 0 1; mmc dev ${d}; done", no_script("1:15", "Unexpected")),
-    (b"for d in 0 1; do mmc dev ${d}; run mmcboot", no_script("1:43", "Missing")),
-    (b"while run loadkernel; mmc rescan; done", no_script("1:35", "Unexpected")),
-    (b"if run loadkernel; then run mmcboot; else if run loadfdt; then run netboot; fi", no_script("1:79", "Missing")),
-    (b"if run loadkernel; then run mmcboot; elseif run loadfdt; then run netboot; fi", no_script("1:58", "Unexpected")),
-    (b"if run loadkernel; then run mmcboot; end", no_script("1:41", "Missing")),
+    (b"if run loadkernel then run mmcboot; fi", no_script("1:37", "Unexpected", lost("`then`", "if"))),
+    (b"if run loadkernel; run mmcboot; fi", no_script("1:33", "Unexpected", lost("`then`", "if"))),
+    (b"if run loadkernel; then run mmcboot; else run netboot", no_script("1:54", "Missing", lost("`fi`", "if"))),
+    (b"for d in 0 1; mmc dev ${d}; done", no_script("1:15", "Unexpected", lost("`do`", "for"))),
+    (b"for d in 0 1; do mmc dev ${d}; run mmcboot", no_script("1:43", "Missing", lost("`done`", "for"))),
+    (b"while run loadkernel; mmc rescan; done", no_script("1:35", "Unexpected", lost("`do`", "while"))),
+    (b"if run loadkernel; then run mmcboot; else if run loadfdt; then run netboot; fi", no_script("1:79", "Missing", lost("`fi`", "if"))),
+    (b"if run loadkernel; then run mmcboot; elseif run loadfdt; then run netboot; fi", no_script("1:58", "Unexpected", lost("`fi`", "if"))),
+    (b"if run loadkernel; then run mmcboot; end", no_script("1:41", "Missing", lost("`fi`", "if"))),
     (b"run mmcargs run loadkernel", not_run("1:13", "run")),
     (b"mmc dev ${mmcdev} run mmcboot", no_separator("1:1")),
     # what `setenv` and assignments do

@@ -1,8 +1,9 @@
 """Faults of texts by hand: what isn't a script, what is although it is close to that, and stand-in files that are refused."""
 
+from differential.harness.check_lines import lost
 from model.script_run import SENTENCES
 
-# What isn't a script: by the kind of its fault each text, with the line and the column that are reported
+# What isn't a script: by the kind of its fault each text, with the line and the column that are reported, and what is missing there
 FAULTS = {
     "Quote": [
         (b"echo 'a", 1, 6), (b'a=1; echo b"c', 1, 12), (b'echo "$a', 1, 6), (b"'", 1, 1), (b"echo 'a\nb\n", 1, 6),
@@ -20,21 +21,36 @@ FAULTS = {
         (b"&\\\n&", 1, 1),
     ],
     "Unexpected": [
-        (b"fi", 1, 1), (b"if true; then fi", 1, 15), (b"true\n&& true", 2, 1), (b"for 1 in a; do true; done", 1, 5), (b'fi "', 1, 1),
-        (b"then", 1, 1), (b"do a; done", 1, 1), (b"a; done", 1, 4), (b"if a; then b; fi; fi", 1, 19), (b"if a; then b; fi c", 1, 18),
-        (b"if; then a; fi", 1, 5), (b"if a; b; fi", 1, 10), (b"if a && then b; fi", 1, 9), (b"if a; 'then' b; fi", 1, 17),
-        (b"if a; then b; else c; else d; fi", 1, 23), (b"if a; then b; else c; elif d; then e; fi", 1, 23),
-        (b"while a; then b; done", 1, 10), (b"while a; do done", 1, 13), (b"until a; do b; fi", 1, 16), (b"for\ni in a; do b; done", 1, 4),
-        (b"for i a; do b; done", 1, 7), (b"for i 'in' a; do b; done", 1, 7), (b"for 'i' in a; do b; done", 1, 5),
-        (b"for i in a; b; done", 1, 13), (b"for i in a do b; done", 1, 18), (b"for i in a && b; do c; done", 1, 12), (b"&& a", 1, 1),
-        (b"|| a", 1, 1), (b"a && && b", 1, 6), (b"a; && b", 1, 4), (b"if true then a; fi", 1, 17), (b"a && ;", 1, 6), (b"for ; in", 1, 5),
-        (b"if a; then # nothing\nfi", 2, 1), (b"if true then echo a; fi", 1, 22), (b"if a; then elif b; then c; fi", 1, 12), (b"for 1 in a; do b; done", 1, 5),
+        *[(word, 1, 1, "`%s` without `if`" % word.decode()) for word in (b"then", b"elif", b"else", b"fi")],
+        (b'fi "', 1, 1, "`fi` without `if`"), (b"if a; then b; fi; fi", 1, 19, "`fi` without `if`"), (b"if a; then b; fi fi", 1, 18, "`fi` without `if`"),
+        (b"a && fi", 1, 6, "`fi` without `if`"), (b"do a; done", 1, 1, "`do` without `for`, `while` or `until`"), (b"a; done", 1, 4, "`done` without `do`"),
+        (b"for 1 in a; do true; done", 1, 5, lost("name", "for")), (b"for 1 in a; do b; done", 1, 5, lost("name", "for")), (b"for ; in", 1, 5, lost("name", "for")),
+        (b"for\ni in a; do b; done", 1, 4, lost("name", "for")), (b"for 'i' in a; do b; done", 1, 5, lost("name", "for")),
+        (b"for i a; do b; done", 1, 7, lost("`in`", "for")), (b"for i 'in' a; do b; done", 1, 7, lost("`in`", "for")), (b"a\nfor i for", 2, 7, lost("`in`", "for", 2)),
+        (b"for i in a; b; done", 1, 13, lost("`do`", "for")), (b"for i in a do b; done", 1, 18, lost("`do`", "for")),
+        (b"for i in a && b; do c; done", 1, 12, lost("`do`", "for")), (b"while a; then b; done", 1, 10, lost("`do`", "while")),
+        (b"a\n\nwhile b\ndone", 4, 1, lost("`do`", "while", 3)), (b"until a; do b; fi", 1, 16, lost("`done`", "until")),
+        (b"for i in a; do b; fi", 1, 19, lost("`done`", "for")), (b"while a\ndo if b; then c; done", 2, 18, lost("`fi`", "if", 2)),
+        (b"if a; then b; fi c", 1, 18, "no `;` before this word"), (b"if a; then if b; then c; fi fi", 1, 29, "no `;` before `fi`"),
+        (b"if a; then b; fi if c; then d; fi", 1, 18, "no `;` before `if`"), (b"if while a; do b; done then c; fi", 1, 24, "no `;` before `then`"),
+        (b"true\n&& true", 2, 1, "no command before `&&`"), (b"&& a", 1, 1, "no command before `&&`"), (b"|| a", 1, 1, "no command before `||`"),
+        (b"a && && b", 1, 6, "no command before `&&`"), (b"a; && b", 1, 4, "no command before `&&`"), (b"a && ;", 1, 6, "no command before `;`"),
+        (b"if a && then b; fi", 1, 9, "no command before `then`"), (b"if; then a; fi", 1, 5, "no command before `then`"),
+        (b"while do a; done", 1, 7, "no command before `do`"), (b"while a; do done", 1, 13, "no command before `done`"),
+        (b"if true; then fi", 1, 15, "no command before `fi`"), (b"if a; then # nothing\nfi", 2, 1, "no command before `fi`"),
+        (b"if a; then elif b; then c; fi", 1, 12, "no command before `elif`"),
+        (b"if a; b; fi", 1, 10, lost("`then`", "if")), (b"if a; 'then' b; fi", 1, 17, lost("`then`", "if")), (b"if true then a; fi", 1, 17, lost("`then`", "if")),
+        (b"if true then echo a; fi", 1, 22, lost("`then`", "if")), (b"if fi", 1, 4, lost("`then`", "if")),
+        (b"if a; then b; else c; else d; fi", 1, 23, lost("`fi`", "if")), (b"if a; then b; else c; elif d; then e; fi", 1, 23, lost("`fi`", "if")),
     ],
     "Missing": [
-        (b"if true; then echo", 1, 19), (b"if true; then echo a", 1, 21), (b"a &&", 1, 5),
-        (b"while true\ndo echo\n", 3, 1), (b"true &&", 1, 8), (b"a &&\n", 2, 1),
-        (b"if a; then b; fi ||", 1, 20), (b"while a; do b; done && # c", 1, 27), (b"if", 1, 3), (b"if a; then b; else", 1, 19),
-        (b"until a; do b", 1, 14), (b"for i", 1, 6), (b"for i in a", 1, 11), (b"for i in a;", 1, 12), (b"if " * 64, 1, 193), (b"for", 1, 4),
+        (b"if true; then echo", 1, 19, lost("`fi`", "if")), (b"if true; then echo a", 1, 21, lost("`fi`", "if")), (b"if a; then b; else", 1, 19, lost("`fi`", "if")),
+        (b"if a\nthen if b\nthen c", 3, 7, lost("`fi`", "if", 2)), (b"if a\nthen if b\nthen c; fi", 3, 11, lost("`fi`", "if")),
+        (b"while true\ndo echo\n", 3, 1, lost("`done`", "while")), (b"until a; do b", 1, 14, lost("`done`", "until")),
+        *[(text, 1, len(text) + 1, "no command before the end of the text") for text in (b"a &&", b"true &&", b"if a; then b; fi ||", b"while a; do b; done && # c")],
+        (b"a &&\n", 2, 1, "no command before the end of the text"), (b"if a ||", 1, 8, "no command before the end of the text"),
+        (b"if", 1, 3, lost("`then`", "if")), (b"if " * 64, 1, 193, lost("`then`", "if")), (b"for", 1, 4, lost("name", "for")), (b"for i", 1, 6, lost("`in`", "for")),
+        (b"for i in a", 1, 11, lost("`do`", "for")), (b"for i in a;", 1, 12, lost("`do`", "for")),
     ],
     "Nest": [
         (b"if " * 65, 1, 193), (b"for i in a; do " * 65, 1, 961), (b"while true; do " * 65 + b"true" + b"; done" * 65, 1, 961),
@@ -42,7 +58,7 @@ FAULTS = {
     ],
     "Assignment": [(b"a=1 echo b", 1, 5), (b"x=1 echo", 1, 5), (b"x; a= then", 1, 7), (b"if a=1 b; then c; fi", 1, 8), (b"true\n\tx=1 \\\n  y=2", 3, 3)],
 }  # fmt: skip
-NO_SCRIPTS = [(*each, kind) for kind, texts in FAULTS.items() for each in texts]
+NO_SCRIPTS = [(*each[:3], kind, *(each[3:] or [None])) for kind, texts in FAULTS.items() for each in texts]
 # What is one by the board's shell alone: bodies are empty. The messages of `a`, how many steps are taken, and the status
 EMPTY_BODIES = {b"if true; then fi": (0, 1, 0), b"while a; do done": (1, 1, 1), b"if a; then # nothing\nfi": (1, 1, 1)}
 # What is a script, although it is close to one of those

@@ -450,7 +450,7 @@ def scripts():
 
 
 def no_scripts():
-    for script, *place in NO_SCRIPTS:
+    for script, *place, _ in NO_SCRIPTS:
         for words in [STRICT] if script in EMPTY_BODIES else in_each_shell([]):
             yield over_text("no script among the words", [*words, b"-e", script], b"", refused(b"-e", *place))
             yield over_text("no script in a file", [b"-f", b"a:1 b", *words], b"", refused(b"a:1 b", *place), {b"a:1 b": script})

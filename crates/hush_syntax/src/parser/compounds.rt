@@ -3,16 +3,16 @@
 ghost use Rattle.std.specs.Prelude.{◌≡◌, OnOk};
 ghost use Rattle.hush_syntax.specs.Builders.{if_stored};
 
-use crate::SyntaxFault;
 use crate::cursor::Tokens;
 use crate::keywords::Keyword;
 use crate::nodes::{Branch, NodeId};
 use crate::parser::Parser;
+use crate::refusal::Refusal;
 use crate::stored::{Block, Stored};
 use crate::table::Builder;
 
 impl<'s> Parser<'s> {
-    ghost use Rattle.hush_syntax.specs.Answers.{Answers, branch, left_in, otherwise, SameEnd, IsAt, HasFaultOf, Keeps, words_left};
+    ghost use Rattle.hush_syntax.specs.Answers.{Answers, branch, left_in, otherwise, SameEnd, IsAt, words_left};
     ghost use Rattle.hush_syntax.specs.CommandWords.{Beginning, Naming, Within, spot_behind};
     ghost use Rattle.hush_syntax.specs.Grammar.{Chains, Command};
     ghost use Rattle.hush_syntax.specs.Reading.{command, compound, elif_at_once, loop_parts, then_word};
@@ -26,15 +26,13 @@ impl<'s> Parser<'s> {
         tokens: &mut Tokens,
         builder: &mut Builder,
         keyword: Keyword,
-        fault: SyntaxFault,
         room: u32,
-    ) -> Result<NodeId, SyntaxFault>
+    ) -> Result<NodeId, Refusal>
         requires at { IsAt self.text.now tokens.old }
-        requires fault { HasFaultOf self.text.now fault }
         ensures built { Parses CommandAt self.entry.text.now (compound self.entry.bodies (command self.entry.bodies room) keyword) builder.old builder.new tokens.old tokens.new result }
         ensures words { OnOk result (SameWords self.entry.text.now (spot_behind keyword) builder.old tokens.old Within builder.new tokens.new) }
         ensures whole { OnOk result (SameEnd self.entry.text.now tokens.old tokens.new) }
-        ensures at { Keeps self.entry.text.now tokens.new result }
+        ensures at { OnOk result (IsAt self.entry.text.now tokens.new) }
     {
         match keyword {
             Keyword::If => self.branches(tokens, builder, room),
@@ -54,7 +52,7 @@ impl<'s> Parser<'s> {
             | Keyword::Else
             | Keyword::Fi
             | Keyword::Do
-            | Keyword::Done => Err(fault),
+            | Keyword::Done => Err(Refusal::NoScript),
         }
     }
 
@@ -65,13 +63,13 @@ impl<'s> Parser<'s> {
         tokens: &mut Tokens,
         builder: &mut Builder,
         room: u32,
-    ) -> Result<(NodeId, NodeId), SyntaxFault>
+    ) -> Result<(NodeId, NodeId), Refusal>
         requires at { IsAt self.text.now tokens.old }
         ensures built { (form : Chains → Chains → Command) → Parses (LoopAt form) self.entry.text.now
             (loop_parts self.entry.bodies (command self.entry.bodies room) form) builder.old builder.new tokens.old tokens.new result }
         ensures words { OnOk result (SameWords self.entry.text.now Beginning builder.old tokens.old Within builder.new tokens.new) }
         ensures whole { OnOk result (SameEnd self.entry.text.now tokens.old tokens.new) }
-        ensures at { Keeps self.entry.text.now tokens.new result }
+        ensures at { OnOk result (IsAt self.entry.text.now tokens.new) }
     {
         let condition = self.list(tokens, builder, room)?;
         tokens.expect(self.text, Keyword::Do.text())?;
@@ -87,12 +85,12 @@ impl<'s> Parser<'s> {
         tokens: &mut Tokens,
         builder: &mut Builder,
         room: u32,
-    ) -> Result<NodeId, SyntaxFault>
+    ) -> Result<NodeId, Refusal>
         requires at { IsAt self.text.now tokens.old }
         ensures built { Parses CommandAt self.entry.text.now (compound self.entry.bodies (command self.entry.bodies room) Keyword.For) builder.old builder.new tokens.old tokens.new result }
         ensures words { OnOk result (SameWords self.entry.text.now Naming builder.old tokens.old Within builder.new tokens.new) }
         ensures whole { OnOk result (SameEnd self.entry.text.now tokens.old tokens.new) }
-        ensures at { Keeps self.entry.text.now tokens.new result }
+        ensures at { OnOk result (IsAt self.entry.text.now tokens.new) }
     {
         let name = tokens.name(self.text)?;
         tokens.expect(self.text, b"in")?;
@@ -112,12 +110,12 @@ impl<'s> Parser<'s> {
         tokens: &mut Tokens,
         builder: &mut Builder,
         room: u32,
-    ) -> Result<NodeId, SyntaxFault>
+    ) -> Result<NodeId, Refusal>
         requires at { IsAt self.text.now tokens.old }
         ensures built { Parses CommandAt self.entry.text.now (compound self.entry.bodies (command self.entry.bodies room) Keyword.If) builder.old builder.new tokens.old tokens.new result }
         ensures words { OnOk result (SameWords self.entry.text.now Beginning builder.old tokens.old Within builder.new tokens.new) }
         ensures whole { OnOk result (SameEnd self.entry.text.now tokens.old tokens.new) }
-        ensures at { Keeps self.entry.text.now tokens.new result }
+        ensures at { OnOk result (IsAt self.entry.text.now tokens.new) }
     {
         let mark = builder.waiting_branches();
         let first = self.branch(tokens, builder, room)?;
@@ -140,12 +138,12 @@ impl<'s> Parser<'s> {
         tokens: &mut Tokens,
         builder: &mut Builder,
         room: u32,
-    ) -> Result<Branch, SyntaxFault>
+    ) -> Result<Branch, Refusal>
         requires at { IsAt self.text.now tokens.old }
         ensures built { Parses BranchAt self.entry.text.now (branch self.entry.bodies (command self.entry.bodies room)) builder.old builder.new tokens.old tokens.new result }
         ensures words { OnOk result (SameWords self.entry.text.now Beginning builder.old tokens.old Beginning builder.new tokens.new) }
         ensures whole { OnOk result (SameEnd self.entry.text.now tokens.old tokens.new) }
-        ensures at { Keeps self.entry.text.now tokens.new result }
+        ensures at { OnOk result (IsAt self.entry.text.now tokens.new) }
     {
         let condition = self.list(tokens, builder, room)?;
         self.then_word(tokens)?;
@@ -154,16 +152,16 @@ impl<'s> Parser<'s> {
     }
 
     /// Passes `then`, which `elif` may not follow at once where a body may be empty.
-    fn then_word(self, tokens: &mut Tokens) -> Result<(), SyntaxFault>
+    fn then_word(self, tokens: &mut Tokens) -> Result<(), Refusal>
         requires at { IsAt self.text.now tokens.old }
         ensures answered { Answers (λ _. tt) (then_word self.entry.bodies (left_in self.entry.text.now tokens.old)) (left_in self.entry.text.now tokens.new) result }
         ensures words { OnOk result (words_left self.entry.text.now Beginning tokens.new ≡ words_left self.entry.text.now Beginning tokens.old) }
         ensures whole { OnOk result (SameEnd self.entry.text.now tokens.old tokens.new) }
-        ensures at { Keeps self.entry.text.now tokens.new result }
+        ensures at { OnOk result (IsAt self.entry.text.now tokens.new) }
     {
         tokens.expect(self.text, Keyword::Then.text())?;
         if self.elif_at_once(tokens) {
-            return Err(tokens.fault());
+            return Err(Refusal::NoScript);
         }
         Ok(())
     }
@@ -182,12 +180,12 @@ impl<'s> Parser<'s> {
         tokens: &mut Tokens,
         builder: &mut Builder,
         room: u32,
-    ) -> Result<Option<NodeId>, SyntaxFault>
+    ) -> Result<Option<NodeId>, Refusal>
         requires at { IsAt self.text.now tokens.old }
         ensures built { Parses OtherwiseAt self.entry.text.now (otherwise self.entry.bodies (command self.entry.bodies room)) builder.old builder.new tokens.old tokens.new result }
         ensures words { OnOk result (SameWords self.entry.text.now Beginning builder.old tokens.old Within builder.new tokens.new) }
         ensures whole { OnOk result (SameEnd self.entry.text.now tokens.old tokens.new) }
-        ensures at { Keeps self.entry.text.now tokens.new result }
+        ensures at { OnOk result (IsAt self.entry.text.now tokens.new) }
     {
         if !tokens.at(self.text, Keyword::Else.text()) {
             tokens.expect(self.text, Keyword::Fi.text())?;

@@ -11,5 +11,5 @@ returns g c =
       | in-Err+in-Memory w ↦ subst (λ e. Tells c.args.bodies (g.F.Write.contents c.args.errors.now) (g.F.Write.contents e)) (sym w.errors-is) (tells_none _ _)
       | in-Err+in_default w ↦
           subst (λ e. Tells c.args.bodies (g.F.Write.contents c.args.errors.now) (g.F.Write.contents e)) (sym w.errors-is)
-          (tells_one _ _ c.args.copy.items _ _ _ c.requires (w.in-Err.ensures.unread w.in_default.not-Memory) (w.in-Err.ensures.fits w.in_default.not-Memory) w.say_syntax_fault.ensures)
+          (tells_one _ _ c.args.copy.items _ _ _ c.requires (w.in-Err.ensures.unread w.in_default.not-Memory) (w.in-Err.ensures.exact w.in_default.not-Memory) w.say_syntax_fault.ensures)
     ]

@@ -1,6 +1,5 @@
 use Rattle.std.proofs.Common.{sym, ◌∙◌, ap}
 use Rattle.hush_syntax.specs.Answers.{whole_behind, ends_whole}
-use Rattle.hush_syntax.proofs.Places.{end-faults}
 use Rattle.hush_syntax.proofs.cursor.Tokens.finish.Goals as goal
 
 pub returns-then-is_missing-clause-whole : goal.returns-then-is_missing-clause-whole
@@ -12,6 +11,3 @@ pub returns-else-is_missing-clause-fault : goal.returns-else-is_missing-clause-f
 unfolding ends_whole
 returns-else-is_missing-clause-fault c = λ text passed.
     ap (λ o. whole_behind text o c.args.self.now.behind) c.in-Err.is ∙ sym c.is_missing.ensures ∙ c.if-is_missing.false
-
-pub returns-else-is_missing-clause-first : goal.returns-else-is_missing-clause-first
-returns-else-is_missing-clause-first c = λ text at. end-faults text c.args.self.now c.in-Err.end c.in-Err.is at

@@ -1,10 +1,10 @@
-use Rattle.std.proofs.Common.{sym, ◌∙◌, ap, subst, refl, length, ◌==◌}
+use Rattle.std.proofs.Common.{sym, ◌∙◌, ap, length, ◌==◌}
 use Rattle.hush_words.specs.Faults.{left_fault}
-use Rattle.hush_syntax.specs.Answers.{ends_whole, placed_in, EndsRight, HasFaultOf}
+use Rattle.hush_syntax.specs.Answers.{ends_whole, placed_in, EndsRight}
 use Rattle.hush_syntax.specs.Faults.{is_missing}
 use Rattle.hush_syntax.specs.declared.syntax_fault.SyntaxFault.{SyntaxFault}
 use Rattle.hush_syntax.proofs.EndLemmas.{not-missing, some-left}
-use Rattle.hush_syntax.proofs.Places.{word-stops}
+use Rattle.hush_syntax.proofs.Places.{word-ends, text-ends}
 use Rattle.hush_syntax.proofs.cursor.Tokens.read_next.Goals as goal
 
 pub returns-in-Ok-Some-clause-whole : goal.returns-in-Ok-Some-clause-whole
@@ -46,7 +46,7 @@ pub returns-in-Ok-None-clause-ends : goal.returns-in-Ok-None-clause-ends
 unfolding EndsRight
 returns-in-Ok-None-clause-ends c = λ e.
     let read = rw c.in-Ok-None.field-0-is at c.in-Ok-None.ensures in
-    subst (HasFaultOf c.args.text.now) (sym c.missing.ensures) (sym e ∙ read.1, refl)
+    c.missing.ensures ∙ text-ends c.args.text.now.source (sym e ∙ read.1)
 
 pub returns-in-Err-clause-placed : goal.returns-in-Err-clause-placed
 unfolding placed_in
@@ -56,5 +56,4 @@ pub returns-in-Err-clause-ends : goal.returns-in-Err-clause-ends
 unfolding EndsRight
 returns-in-Err-clause-ends c = λ e.
     let source = c.args.text.now.source in
-    subst (HasFaultOf c.args.text.now) (sym c.from.ensures)
-    (word-stops source c.in-Err.fault.kind c.in-Err.fault.place (ap (left_fault source) (sym e) ∙ c.in-Err.ensures.3))
+    c.from.ensures ∙ word-ends source c.in-Err.fault (ap (left_fault source) (sym e) ∙ c.in-Err.ensures.3)

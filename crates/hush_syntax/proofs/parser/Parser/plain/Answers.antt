@@ -4,7 +4,6 @@ use Rattle.hush_syntax.specs.Answers.{left_in, placed_in}
 use Rattle.hush_syntax.specs.CommandWords.{Beginning, Within}
 use Rattle.hush_syntax.specs.Reading.{behind, keyword_at}
 use Rattle.hush_syntax.proofs.CommandExits.{simple-built}
-use Rattle.hush_syntax.proofs.Places.{after-word, assigns}
 use Rattle.hush_syntax.proofs.PassedWords.{begins-simple}
 use Rattle.hush_syntax.proofs.WordSteps.{assigned, moves, puts, stays}
 use Rattle.hush_syntax.proofs.parser.Parser.plain.Goals as goal
@@ -15,14 +14,6 @@ returns-in_ok-node-in-None-clause-built c =
     let w = c.in_ok-words-in-None.ensures in
     simple-built s (word_atoms s c.in-Some.first) (behind (left_in s c.args.tokens.now)) (left_in s c.args.tokens.now) (left_in s c.take_words.new.tokens) c.args.builder.now c.take_words.new.self c.put.new.self
     c.in_ok-words-in-None.words c.in_ok-node-in-None.node (c.in-Some.ensures.first s) (sym c.in-None.ensures.told) w.words w.grows w.waits w.left c.in_ok-node-in-None.ensures
-
-pub assignment-requires : goal.assignment-requires
-assignment-requires c =
-    let s = c.args.self.text.now in
-    record {
-      after = after-word s c.args.tokens.now c.advance.new.self (word_atoms s c.in-Some.first) (behind (left_in s c.args.tokens.now)) c.requires.at
-          (c.in-Some.ensures.first s) (assigns s c.in-Some-sides.assignment _ c.in-Some-sides.ensures.told) c.advance.ensures.placed c.advance.ensures.at;
-    }
 
 pub returns-in_ok-node-in-None-clause-words : goal.returns-in_ok-node-in-None-clause-words
 returns-in_ok-node-in-None-clause-words c = λ none.

@@ -26,11 +26,6 @@ returns-clause-built c =
     let ends = sym c.of-tokens.ensures.whole ∙ sym root.whole ∙ c.in_ok-finish.ensures.whole text in
     (root.built.0, read_to_end c.args.self.bodies text.source c.requires ends ∙ ap (script_in c.args.self.bodies) (sym c.of-tokens.ensures.left) ∙ root.built.1, root.built.2)
 
-pub returns-in_err-finish-clause-first : goal.returns-in_err-finish-clause-first
-returns-in_err-finish-clause-first c =
-    let p = err_from_is_err_and c.from_residual-in_err-finish.result c.from_residual-in_err-finish.ensures.1 in
-    rw (p.1, p.2) (c.in_err-finish.ensures.first c.args.self.text.now c.in_ok-root.ensures.at)
-
 pub returns-clause-words : goal.returns-clause-words
 returns-clause-words c =
     let text = c.args.self.text.now in
